@@ -34,7 +34,7 @@ use Rattle.lucy_run.specs.declared.ending.Ending.TheVariants as ending
 use Rattle.lucy_run.specs.Feeds.{Feeds}
 use Rattle.lucy_run.specs.Owes.{input_words, IsHorizonOf, heading, lines_to, EndsFor, OwesRun, LinesAllow}
 use Rattle.lucy_program.specs.Scheduled.{main_inputs}
-use Rattle.lucy_right.specs.Laws.{NodesArePlaced}
+use Rattle.lucy_naming.specs.Laws.{NodesAreOne}
 use Rattle.lucy_right.specs.Right.{Meaning, StandsFor, IsRunOf, RunIsRight}
 use Rattle.lucy_right.specs.Earliest.{AreChosen}
 use Rattle.lucy_right.specs.Owed.{IsRunOfText, CutsAreRuns, OwedAreRuns}
@@ -279,7 +279,7 @@ pub record Laws : Type 0 where
   pub owed : OwedAreRuns
   pub pass : WrittenPassLimits
   pub texts : TextsHaveOneAnswer
-  pub placed : NodesArePlaced
+  pub nodes : NodesAreOne
 
 -- what stands on the output
 abbrev Leaves : (ops : List Operator) (o : Options) (instants : Option ℕ) (text input output : List ℕ) (status : ℕ) → Type 0
@@ -389,7 +389,7 @@ unrefused laws ops o instants text taken stop answer status (inl (r, refuses, e)
     )
 unrefused laws ops o instants text taken stop answer status (inr (inl q)) is program m read stands = (
   λ written. apart answer.status status 1 is q.2 (λ e. omega arith),
-  λ two. let it = q.4 (is_told answer.status status 2 is (λ e. omega arith) two) in inputless laws.texts laws.placed ops o text it.a program m it.accepted read stands it.lacks.0,
+  λ two. let it = q.4 (is_told answer.status status 2 is (λ e. omega arith) two) in inputless laws.texts laws.nodes ops o text it.a program m it.accepted read stands it.lacks.0,
 )
 unrefused laws ops o instants text taken stop answer status (inr (inr ran)) is program m read stands =
     suited_apart (ending_told ran.end).0 status m (subst (λ (x : Answer). IsTold x.status status) ran.is is) (ending_apart ran.end 1 (omega arith) (omega arith)) (ending_apart ran.end 2 (omega arith) (omega arith))

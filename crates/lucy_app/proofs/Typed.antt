@@ -8,7 +8,8 @@ use Rattle.lucy_grammar.proofs.TextLaws.{one_program, tree_or_error}
 use Rattle.lucy_naming.specs.declared.error.NameError.{NameError}
 use Rattle.lucy_naming.specs.declared.error.NameError.TheVariants as names
 use Rattle.lucy_naming.specs.Faults.{faults, verdict}
-use Rattle.lucy_naming.specs.Nodes.{placed_nodes}
+use Rattle.lucy_naming.specs.Places.{AreNodesOf}
+use Rattle.lucy_naming.proofs.NodesLaws.{nodes_one}
 use Rattle.lucy_place.specs.PlacedProgram.{PlacedProgram}
 use Rattle.lucy_naming.specs.Placing.{IsFirstFault}
 use Rattle.lucy_types.specs.Programs.{IsTyped, IsClash}
@@ -29,12 +30,12 @@ no_first fs e none is = let same : verdict [] ≡ Err e = sym (ap verdict none) 
 
 module _ (ops : List Operator) (text : List ℕ) where
   -- a text has one list of nodes
-  nodes_one : (v w : PlacedProgram) → IsPlacedText ops text v → IsPlacedText ops text w → v.nodes ≡ w.nodes
-  nodes_one v w x y = x.is_placed.nodes ∙ ap (placed_nodes ops) (one_program text x.tree y.tree x.read y.read) ∙ sym y.is_placed.nodes
+  same_nodes : (v w : PlacedProgram) → IsPlacedText ops text v → IsPlacedText ops text w → v.nodes ≡ w.nodes
+  same_nodes v w x y = nodes_one ops y.tree v.nodes w.nodes (subst (λ p. AreNodesOf ops p v.nodes) (one_program text x.tree y.tree x.read y.read) x.is_placed.nodes) y.is_placed.nodes
 
   report_one : (x y : List ℕ) → IsReportOf ops text x → IsReportOf ops text y → x ≡ y
   report_one x y is also =
-      let same : is.0.nodes ≡ also.0.nodes = nodes_one is.0 also.0 is.2.program also.2.program in
+      let same : is.0.nodes ≡ also.0.nodes = same_nodes is.0 also.0 is.2.program also.2.program in
       let typed : IsTyped also.0.nodes is.1 = subst (λ ns. IsTyped ns is.1) same is.2.typed in
       is.3 ∙ ap (λ ns. type_report ns is.1) same ∙ ap (type_report also.0.nodes) (typed_unique also.0.nodes is.1 also.1 typed also.2.typed) ∙ sym also.3
 
@@ -46,7 +47,7 @@ module _ (ops : List Operator) (text : List ℕ) where
   report_apart x (Syntax e) is bad = tree_or_error text is.2.program.tree e is.2.program.read (syntax_refused text e bad)
   report_apart x (Names e) is bad = let (p, read, first) = names_refused ops text e bad in good_names is.0 p e is.2.program read first
   report_apart x (Types placed node path) is bad =
-      let same : placed.nodes ≡ is.0.nodes = nodes_one placed is.0 bad.0 is.2.program in
+      let same : placed.nodes ≡ is.0.nodes = same_nodes placed is.0 bad.0 is.2.program in
       clash_untyped is.0.nodes is.1 node path.items (subst (λ ns. IsClash ns node path.items) same bad.1) is.2.typed
   report_apart x (LimitPassed l) is (inl bad) = tree_or_error text is.2.program.tree (syntax.TooLarge l) is.2.program.read bad
   report_apart x (LimitPassed l) is (inr bad) = good_names is.0 bad.0 (names.TooMany l) is.2.program bad.1 bad.2

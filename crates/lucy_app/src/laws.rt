@@ -8,8 +8,9 @@ ghost use Rattle.lucy_app.specs.Right.{ChecksAreRight, RunsAreRight};
 use lucy_grammar::texts_have_one_answer;
 use lucy_kahn::one_horizon;
 use lucy_lines::one_cut;
+use lucy_naming::nodes_are_one;
 use lucy_right::{
-    accepted_nodes_are_written, accepted_programs_stand, nodes_are_placed, owed_outputs_are_runs,
+    accepted_nodes_are_written, accepted_programs_stand, owed_outputs_are_runs,
     written_programs_pass, written_programs_stand_for_one,
 };
 use lucy_run::{faultless_runs_are_done, one_interpretation, one_replay, one_run, one_trace};
@@ -73,7 +74,7 @@ pub fn runs_are_right()
     owed_outputs_are_runs();
     written_programs_pass();
     texts_have_one_answer();
-    nodes_are_placed();
+    nodes_are_one();
 }
 
 /// What `check` and `clocks` leave is right, as `lucy_right` says it: with 0 the report of what the text of FILE stands for, which passes no limit.

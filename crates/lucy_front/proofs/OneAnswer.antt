@@ -15,6 +15,7 @@ use Rattle.lucy_place.specs.declared.placed.PlacedNode.{PlacedNode}
 use Rattle.lucy_naming.specs.Faults.{faults, verdict}
 use Rattle.lucy_place.specs.PlacedProgram.{PlacedProgram}
 use Rattle.lucy_naming.specs.Placing.{IsFirstFault, IsPlaced}
+use Rattle.lucy_naming.proofs.NodesLaws.{nodes_one}
 use Rattle.lucy_types.specs.declared.ty.Ty.{Ty}
 use Rattle.lucy_types.specs.Programs.{IsTyped, IsClash}
 use Rattle.lucy_types.proofs.ProgramLaws.{typed_unique, clash_untyped, clash_unique}
@@ -38,7 +39,7 @@ use Rattle.lucy_front.proofs.OneUnclocked.{StandsUnclocked, clocks_one, clocked_
 -- a tree has one list of places
 placed_one : (ops : List Operator) (p : ProgramTree) (v w : PlacedProgram) → IsPlaced ops p v → IsPlaced ops p w → v ≡ w
 placed_one ops p v w x y =
-    ap (λ (ns : List PlacedNode). let r : PlacedProgram = record { nodes = ns; unwritten = v.unwritten } in r) (x.nodes ∙ sym y.nodes)
+    ap (λ (ns : List PlacedNode). let r : PlacedProgram = record { nodes = ns; unwritten = v.unwritten } in r) (nodes_one ops p v.nodes w.nodes x.nodes y.nodes)
     ∙ ap (λ (ss : List (Option Span)). let r : PlacedProgram = record { nodes = w.nodes; unwritten = ss } in r) (x.unwritten ∙ sym y.unwritten)
 
 -- faults have one that is the first

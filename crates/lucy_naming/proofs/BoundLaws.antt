@@ -4,7 +4,8 @@ use Rattle.std.specs.List.{AllByRecursion}
 use Rattle.lucy_tree.specs.View.{DefTree}
 use Rattle.lucy_tree.specs.Shaped.{IsBound, IsShapedDef}
 use Rattle.lucy_naming.specs.Phrases.{Head, Literal, Applied, Host, Sampled, Merged, Followed, Buffered, Called, Phrase, Phrases, name, headed, none, and, phrase_of}
-use Rattle.lucy_naming.specs.Numbering.{Next, own_bounds, bounds, all_bounds}
+use Rattle.lucy_naming.specs.Numbering.{Next, bounds, all_bounds}
+use Rattle.lucy_naming.specs.Places.{own_bounds}
 use Rattle.lucy_naming.specs.Nodes.{past_def, past_defs, def_bounds}
 use Rattle.lucy_naming.proofs.ShapeLaws.{Takes, HasShape, HaveShape, has_shape}
 

@@ -4,9 +4,10 @@ use Rattle.std.proofs.lemmas.List.{map-append}
 use Rattle.lucy_tree.specs.View.{DefTree}
 use Rattle.lucy_place.specs.declared.entry.CallSite.{CallSite}
 use Rattle.lucy_naming.specs.Texts.{place_in}
-use Rattle.lucy_naming.specs.Streams.{wanted}
+use Rattle.lucy_naming.specs.Streams.{result_count}
 use Rattle.lucy_naming.specs.Phrases.{Head, Literal, Applied, Host, Sampled, Merged, Followed, Buffered, Called, Phrase, Phrases, name, headed, none, and, phrase_of}
-use Rattle.lucy_naming.specs.Numbering.{Next, Known, past, past_all, inside, numbers, entries, all_entries, own_entries, own_sites, sites, all_sites, results_from}
+use Rattle.lucy_naming.specs.Numbering.{Next, past, past_all, inside, numbers, entries, all_entries, own_entries, own_sites, sites, all_sites}
+use Rattle.lucy_naming.specs.Places.{Known, results_from}
 use Rattle.lucy_naming.specs.Nodes.{past_def, past_defs, rights, def_sites}
 use Rattle.lucy_place.specs.Standing.{buffer_places}
 use Rattle.lucy_naming.proofs.DraftLaws.{length_results, inside_past}
@@ -27,7 +28,7 @@ abbrev mutual
 
 abbrev pub def_made : Known → Next → List DefTree → List Call
 def_made k at [] = []
-def_made k at (d ∷ ds) = made k at (wanted d.left) (phrase_of d.right) ++ def_made k (past_def at d) ds
+def_made k at (d ∷ ds) = made k at (result_count d.left) (phrase_of d.right) ++ def_made k (past_def at d) ds
 
 -- they are the calls of the numbering
 abbrev pub site : Call → CallSite
@@ -60,7 +61,7 @@ mutual
 pub def_sites_are : (k : Known) (at : Next) (ds : List DefTree) → map site (def_made k at ds) ≡ def_sites k at ds
 def_sites_are k at [] = refl
 def_sites_are k at (d ∷ ds) =
-    let r : ℕ = wanted d.left in
+    let r : ℕ = result_count d.left in
     map-append site (made k at r (phrase_of d.right)) (def_made k (past_def at d) ds)
     ∙ ap (λ l. l ++ map site (def_made k (past_def at d) ds)) (sites_are k at r (phrase_of d.right)) ∙ ap (λ l. sites k at r (phrase_of d.right) ++ l) (def_sites_are k (past_def at d) ds)
 
@@ -100,6 +101,6 @@ mutual
 pub reaches_defs : (k : Known) (at : Next) (ds : List DefTree) → Reaches at (past_defs at ds) (rights k at ds) (def_made k at ds)
 reaches_defs k at [] = reaches_none at
 reaches_defs k at (d ∷ ds) =
-    let r : ℕ = wanted d.left in
+    let r : ℕ = result_count d.left in
     reaches_join at (past_def at d) (past_defs (past_def at d) ds) (entries k at r (phrase_of d.right)) (rights k (past_def at d) ds) (made k at r (phrase_of d.right)) (def_made k (past_def at d) ds)
     (reaches_phrase k at r (phrase_of d.right)) (reaches_defs k (past_def at d) ds)

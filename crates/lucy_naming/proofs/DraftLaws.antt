@@ -12,7 +12,8 @@ use Rattle.lucy_place.specs.declared.entry.PlaceKind.{PlaceKind}
 use Rattle.lucy_place.specs.declared.entry.PlaceKind.TheVariants as kind
 use Rattle.lucy_place.specs.declared.entry.CallSite.{CallSite}
 use Rattle.lucy_naming.specs.Phrases.{Head, Literal, Applied, Host, Sampled, Merged, Followed, Buffered, Called, Phrase, Phrases, name, headed, none, and}
-use Rattle.lucy_naming.specs.Numbering.{Next, Known, past, past_all, inside, all_rooms, bounds, all_bounds, all_calls, own_rooms, own_bounds, own_calls, own_kind, own_entries, own_sites, entries, all_entries, sites, all_sites, number, numbers, unnamed, results_from}
+use Rattle.lucy_naming.specs.Numbering.{Next, past, past_all, inside, all_rooms, bounds, all_bounds, all_calls, own_rooms, own_calls, own_entries, own_sites, entries, all_entries, sites, all_sites, number, numbers}
+use Rattle.lucy_naming.specs.Places.{Known, own_bounds, own_kind, unnamed, results_from}
 use Rattle.lucy_naming.specs.Drafts.{next_of, IsSmall, Draws, DrawsAll, IsPlain, phrase_operands, buffers_of, kind_of, free_site, site_of}
 
 -- numbers that are the same

@@ -8,7 +8,8 @@ use Rattle.lucy_place.specs.declared.placed.PlacedNode.{PlacedNode}
 use Rattle.lucy_naming.specs.Texts.{is_in}
 use Rattle.lucy_naming.specs.Streams.{node_names}
 use Rattle.lucy_naming.specs.Faults.{Within}
-use Rattle.lucy_naming.specs.Numbering.{Next, Known, stream_place}
+use Rattle.lucy_naming.specs.Numbering.{Next}
+use Rattle.lucy_naming.specs.Places.{Known, stream_place}
 use Rattle.lucy_place.specs.Proper.{at_one, Stands, IsPlace, ArePlaces, IsNamed, IsLabelled, IsProperKind}
 use Rattle.lucy_naming.proofs.EachLaws.{one_within}
 use Rattle.lucy_naming.proofs.Spread.{Call, Spread}

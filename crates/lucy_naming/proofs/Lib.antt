@@ -3,6 +3,7 @@ pub mod VerdictLaws
 pub mod TreeLaws
 pub mod PhraseLaws
 pub mod DraftLaws
+pub mod PartsLaws
 pub mod RoomLaws
 pub mod NodeLaws
 pub mod ProgramLaws
@@ -18,11 +19,12 @@ mod Good
 mod OwnPlaces
 mod ProperPhrases
 mod NodeParts
-mod NodeFaults
+pub mod NodeFaults
 mod NameLaws
 mod ResultLaws
 mod ProperNodes
 pub mod ProperPrograms
+pub mod NodesLaws
 pub mod OperatorLaws
 mod WrittenPhrases
 mod NamedPhrases

@@ -13,11 +13,12 @@ use Rattle.lucy_tree.specs.View.{DefTree, NodeTree, ProgramTree}
 use Rattle.lucy_place.specs.declared.entry.PlaceEntry.{PlaceEntry}
 use Rattle.lucy_place.specs.declared.entry.PlaceKind.TheVariants as kind
 use Rattle.lucy_naming.specs.Texts.{is_text, is_in}
-use Rattle.lucy_naming.specs.Streams.{streams, declared, def_names, wanted}
+use Rattle.lucy_naming.specs.Streams.{streams, declared, def_names, result_count}
 use Rattle.lucy_naming.specs.Phrases.{Head, Literal, Applied, Host, Sampled, Merged, Followed, Buffered, Called, Phrase, Phrases, name, headed, none, and, phrase_of}
 use Rattle.lucy_naming.specs.Faults.{repeat, repeats, node_faults}
-use Rattle.lucy_naming.specs.Numbering.{Next, Known, past, inside, number, numbers, entries, all_entries, own_entries, results_from}
-use Rattle.lucy_naming.specs.Nodes.{past_def, declared_entry, left_entries, defined, rights, first_next}
+use Rattle.lucy_naming.specs.Numbering.{Next, past, inside, number, numbers, entries, all_entries, own_entries}
+use Rattle.lucy_naming.specs.Places.{Known, results_from, declared_entry, left_entries}
+use Rattle.lucy_naming.specs.Nodes.{past_def, defined, rights, first_next}
 use Rattle.lucy_place.specs.Proper.{AreDistinct}
 use Rattle.lucy_naming.proofs.VerdictLaws.{none_front, none_back, is_new}
 use Rattle.lucy_naming.proofs.NodeFaults.{streams_faultless}
@@ -79,8 +80,8 @@ mutual
 rights_nameless : (k : Known) (at : Next) (defs : List DefTree) → AreNameless (rights k at defs)
 rights_nameless k at [] = tt
 rights_nameless k at (d ∷ defs) =
-    nameless_join (entries k at (wanted d.left) (phrase_of d.right)) (rights k (past_def at d) defs)
-    (phrase_nameless k at (wanted d.left) (phrase_of d.right)) (rights_nameless k (past_def at d) defs)
+    nameless_join (entries k at (result_count d.left) (phrase_of d.right)) (rights k (past_def at d) defs)
+    (phrase_nameless k at (result_count d.left) (phrase_of d.right)) (rights_nameless k (past_def at d) defs)
 
 no_name : (es : List PlaceEntry) (i : ℕ) (a : Name) → AreNameless es → slice_get (names_of es) i ≡ Some (Some a) → ⊥
 no_name [] i a nameless h = cc

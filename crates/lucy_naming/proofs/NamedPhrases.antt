@@ -7,7 +7,8 @@ use Rattle.lucy_place.specs.declared.placed.PlacedNode.{PlacedNode}
 use Rattle.lucy_naming.specs.Phrases.{Head, Literal, Applied, Host, Sampled, Merged, Followed, Buffered, Called, Phrase, Phrases, name, headed, none, and, count}
 use Rattle.lucy_naming.specs.Faults.{Within}
 use Rattle.lucy_naming.specs.Written.{unnamed_spans, own_spans, phrase_spans, phrases_spans}
-use Rattle.lucy_naming.specs.Numbering.{Next, Known, past, inside, numbers, entries, all_entries, own_entries, unnamed}
+use Rattle.lucy_naming.specs.Numbering.{Next, past, inside, numbers, entries, all_entries, own_entries}
+use Rattle.lucy_naming.specs.Places.{Known, unnamed}
 use Rattle.lucy_place.specs.Standing.{sampling_word}
 use Rattle.lucy_place.specs.Proper.{at_one, IsNamed, AreNamed}
 use Rattle.lucy_place.specs.WrittenNodes.{IsWritten}

@@ -1,5 +1,5 @@
 -- The faults of a node, part by part.
-use Rattle.std.proofs.Common.{◌≡◌, ◌≤◌, ◌++◌, ℕ, true, false, not, List, [], map, nat_lt, ap, sym, ◌∙◌, subst, inl, inr, arith}
+use Rattle.std.proofs.Common.{◌≡◌, ◌≤◌, ◌++◌, ℕ, true, false, not, List, [], length, map, nat_lt, ap, sym, ◌∙◌, subst, inl, inr, arith}
 use Rattle.std.proofs.lemmas.Bool.{cases_lt}
 use Rattle.std.proofs.lemmas.Bool.Decides.{nat_tests}
 use Rattle.lucy_word.specs.declared.limit.Limit.TheVariants as limit
@@ -8,14 +8,16 @@ use Rattle.lucy_tree.specs.View.{NodeTree, ProgramTree}
 use Rattle.lucy_naming.specs.declared.error.NameError.{NameError}
 use Rattle.lucy_naming.specs.declared.error.NameError.TheVariants.{Twice, TooMany}
 use Rattle.lucy_naming.specs.Texts.{is_in}
-use Rattle.lucy_naming.specs.Streams.{text_of, streams, node_names}
+use Rattle.lucy_naming.specs.Streams.{streams, node_names}
 use Rattle.lucy_naming.specs.Faults.{Within, unless, repeats, def_faults, result_faults, node_faults, verdict}
 use Rattle.lucy_place.specs.Standing.{most_places}
+use Rattle.lucy_naming.specs.Places.{as_placed}
 use Rattle.lucy_naming.specs.Numbering.{node_rooms}
 use Rattle.lucy_naming.specs.Placing.{TellsFirstFault}
-use Rattle.lucy_naming.specs.Views.{inner_faults}
+use Rattle.lucy_naming.specs.Views.{inner_faults, text_of}
 use Rattle.lucy_naming.proofs.VerdictLaws.{none_front, none_back, tells_front, tells_back, all_faultless}
 use Rattle.lucy_naming.proofs.OwnPlaces.{unless_holds}
+use Rattle.lucy_naming.proofs.RoomLaws.{length_placed}
 
 few_rooms : (most rooms : ℕ) → not (nat_lt most rooms) ≡ true → rooms ≤ most
 few_rooms most rooms h = grind (arith, nat_tests)
@@ -34,8 +36,14 @@ module _ (w : Within) (t : NodeTree) where
   abbrev in_results : List NameError
   in_results = result_faults w.streams [] t.results
 
+  abbrev all_places : ℕ
+  all_places = length (as_placed w.operators w.above t).places
+
   abbrev in_rooms : List NameError
-  in_rooms = unless (not (nat_lt most_places (node_rooms t))) (TooMany limit.Places)
+  in_rooms = unless (not (nat_lt most_places all_places)) (TooMany limit.Places)
+
+  counted : all_places ≡ node_rooms t
+  counted = length_placed w.operators w.above t
 
   pub tells_defs : (e : NameError) → TellsFirstFault in_defs e → TellsFirstFault (inner_faults w t) e
   tells_defs e h = tells_front in_defs (in_results ++ in_rooms) h
@@ -47,11 +55,11 @@ module _ (w : Within) (t : NodeTree) where
     module _ (resulting : in_results ≡ []) where
       pub tells_rooms : (node_rooms t ≤ most_places → ⊥) → TellsFirstFault (inner_faults w t) (TooMany limit.Places)
       tells_rooms over =
-          let h : TellsFirstFault in_rooms (TooMany limit.Places) = inr (ap (λ b. verdict (unless b (TooMany limit.Places))) (rooms_many most_places (node_rooms t) over)) in
+          let h : TellsFirstFault in_rooms (TooMany limit.Places) = inr (ap (λ b. verdict (unless b (TooMany limit.Places))) (rooms_many most_places all_places (λ few. over (subst (λ n. n ≤ most_places) counted few)))) in
           tells_back in_defs (in_results ++ in_rooms) defined (tells_back in_results in_rooms resulting h)
 
       pub no_inner : node_rooms t ≤ most_places → inner_faults w t ≡ []
-      no_inner few = all_faultless in_defs (in_results ++ in_rooms) defined (all_faultless in_results in_rooms resulting (ap (λ b. unless b (TooMany limit.Places)) (rooms_fit most_places (node_rooms t) few)))
+      no_inner few = all_faultless in_defs (in_results ++ in_rooms) defined (all_faultless in_results in_rooms resulting (ap (λ b. unless b (TooMany limit.Places)) (rooms_fit most_places all_places (subst (λ n. n ≤ most_places) (sym counted) few))))
 
 module _ (ops : List Operator) (all above : ProgramTree) (t : NodeTree) where
   abbrev in_name : List NameError
@@ -90,7 +98,7 @@ module _ (ops : List Operator) (all above : ProgramTree) (t : NodeTree) (none : 
   texts = map text_of (streams t)
 
   abbrev rooms_fault : List NameError
-  rooms_fault = unless (not (nat_lt most_places (node_rooms t))) (TooMany limit.Places)
+  rooms_fault = unless (not (nat_lt most_places (length (as_placed ops above t).places))) (TooMany limit.Places)
 
   pub streams_faultless : repeats [] (streams t) ≡ []
   streams_faultless = none_front _ _ (none_back _ _ none)
@@ -105,4 +113,6 @@ module _ (ops : List Operator) (all above : ProgramTree) (t : NodeTree) (none : 
   results_faultless = none_front _ _ (none_back _ _ after_streams)
 
   pub rooms_few : node_rooms t ≤ most_places
-  rooms_few = few_rooms most_places (node_rooms t) (unless_holds _ _ (none_back _ _ (none_back _ _ after_streams)))
+  rooms_few =
+      let few = few_rooms most_places (length (as_placed ops above t).places) (unless_holds _ _ (none_back _ _ (none_back _ _ after_streams))) in
+      subst (λ n. n ≤ most_places) (length_placed ops above t) few

@@ -10,11 +10,13 @@ use Rattle.lucy_place.specs.declared.entry.PlaceEntry.{PlaceEntry}
 use Rattle.lucy_place.specs.declared.entry.PlaceKind.TheVariants as kind
 use Rattle.lucy_place.specs.declared.placed.PlacedNode.{PlacedNode}
 use Rattle.lucy_naming.specs.Texts.{is_text, is_in, place_in}
-use Rattle.lucy_naming.specs.Streams.{text_of, streams, declared, def_names}
+use Rattle.lucy_naming.specs.Streams.{streams, declared, def_names}
+use Rattle.lucy_naming.specs.Views.{text_of}
 use Rattle.lucy_naming.specs.Phrases.{phrase_of}
 use Rattle.lucy_naming.specs.Faults.{Within}
-use Rattle.lucy_naming.specs.Numbering.{Next, Known, number, stream_place}
-use Rattle.lucy_naming.specs.Nodes.{past_def, declared_entry, left_entries, defined, rights, first_next, known_in, placed_node}
+use Rattle.lucy_naming.specs.Numbering.{Next, number}
+use Rattle.lucy_naming.specs.Places.{Known, stream_place, declared_entry, left_entries, known_in}
+use Rattle.lucy_naming.specs.Nodes.{past_def, defined, rights, first_next, placed_node}
 use Rattle.lucy_place.specs.Standing.{buffer_places}
 use Rattle.lucy_place.specs.Proper.{at_one, IsNamed}
 use Rattle.lucy_naming.proofs.EachLaws.{each_own}

@@ -22,7 +22,8 @@ use Rattle.lucy_naming.specs.declared.draft.Draft.{Draft}
 use Rattle.lucy_place.specs.declared.entry.PlaceKind.{PlaceKind}
 use Rattle.lucy_naming.specs.Phrases.{Called, Phrase, Phrases, name, headed, none, and, phrase_of, expr_phrase, expr_phrases}
 use Rattle.lucy_place.specs.Standing.{most_places}
-use Rattle.lucy_naming.specs.Numbering.{Next, Known, past, past_all, own_bounds, all_bounds, stream_place, entries, sites, number, numbers}
+use Rattle.lucy_naming.specs.Numbering.{Next, past, past_all, all_bounds, entries, sites, number, numbers}
+use Rattle.lucy_naming.specs.Places.{Known, own_bounds, stream_place}
 use Rattle.lucy_naming.specs.Drafts.{next_of, IsPlain, IsSingle, IsSmall, Draws, DrawsAll, phrase_operands, kind_of, buffers_of}
 use Rattle.lucy_naming.proofs.DraftLaws.{AllDrawn, next_same}
 use Rattle.lucy_naming.proofs.TreeLaws.{tree_sampled, tree_merged, tree_followed, tree_buffered, tree_called, tree_operated, tree_hosted}

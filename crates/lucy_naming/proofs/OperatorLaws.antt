@@ -12,11 +12,12 @@ use Rattle.lucy_tree.specs.View.{DefTree, NodeTree, ProgramTree}
 use Rattle.lucy_place.specs.declared.entry.PlaceEntry.{PlaceEntry}
 use Rattle.lucy_place.specs.declared.entry.PlaceKind.{PlaceKind}
 use Rattle.lucy_place.specs.declared.entry.PlaceKind.TheVariants as kind
-use Rattle.lucy_naming.specs.Streams.{wanted}
+use Rattle.lucy_naming.specs.Streams.{result_count}
 use Rattle.lucy_naming.specs.Phrases.{Head, Literal, Applied, Host, Sampled, Merged, Followed, Buffered, Called, Phrase, Phrases, name, headed, none, and, phrase_of, count}
 use Rattle.lucy_naming.specs.Faults.{Within, head_faults, phrase_faults, phrases_faults, def_faults, node_faults, faults}
-use Rattle.lucy_naming.specs.Numbering.{Next, Known, past, inside, number, numbers, entries, all_entries, own_entries, results_from}
-use Rattle.lucy_naming.specs.Nodes.{past_def, declared_entry, left_entries, defined, rights, first_next, placed_nodes}
+use Rattle.lucy_naming.specs.Numbering.{Next, past, inside, number, numbers, entries, all_entries, own_entries}
+use Rattle.lucy_naming.specs.Places.{Known, results_from, declared_entry, left_entries}
+use Rattle.lucy_naming.specs.Nodes.{past_def, defined, rights, first_next, placed_nodes}
 use Rattle.lucy_place.specs.Proper.{Stands, HaveOperators}
 use Rattle.lucy_naming.proofs.VerdictLaws.{none_front, none_back}
 use Rattle.lucy_naming.proofs.Good.{known_of}
@@ -106,7 +107,7 @@ module _ (sc : Within) where
   rights_below : (at : Next) (defs : List DefTree) → def_faults sc defs ≡ [] → AreBelow most (rights kn at defs)
   rights_below at [] clean = tt
   rights_below at (d ∷ defs) clean =
-      let r : ℕ = wanted d.left in
+      let r : ℕ = result_count d.left in
       let f : Phrase = phrase_of d.right in
       below_join most (entries kn at r f) (rights kn (past_def at d) defs)
       (phrase_below at r f (none_front (phrase_faults sc r f) (def_faults sc defs) clean)) (rights_below (past_def at d) defs (none_back (phrase_faults sc r f) (def_faults sc defs) clean))

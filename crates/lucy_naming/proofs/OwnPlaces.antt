@@ -12,7 +12,8 @@ use Rattle.lucy_naming.specs.Texts.{place_in}
 use Rattle.lucy_naming.specs.Streams.{node_names}
 use Rattle.lucy_naming.specs.Phrases.{Head, Literal, Applied, Host, Sampled, Merged, Followed, Buffered, Called}
 use Rattle.lucy_naming.specs.Faults.{Within, unless, callee_faults, head_faults}
-use Rattle.lucy_naming.specs.Numbering.{Next, own_entries, unnamed, results_from}
+use Rattle.lucy_naming.specs.Numbering.{Next, own_entries}
+use Rattle.lucy_naming.specs.Places.{unnamed, results_from}
 use Rattle.lucy_place.specs.Proper.{at_one, IsPlace, ArePlaces}
 use Rattle.lucy_naming.proofs.EachLaws.{Each, each_at}
 use Rattle.lucy_naming.proofs.Spread.{Call}

@@ -12,11 +12,13 @@ use Rattle.lucy_place.specs.declared.entry.PlaceKind.TheVariants as kind
 use Rattle.lucy_place.specs.declared.entry.CallSite.{CallSite}
 use Rattle.lucy_place.specs.declared.placed.PlacedNode.{PlacedNode}
 use Rattle.lucy_naming.specs.Texts.{is_in}
-use Rattle.lucy_naming.specs.Streams.{text_of, streams, declared, def_names}
+use Rattle.lucy_naming.specs.Streams.{streams, declared, def_names}
+use Rattle.lucy_naming.specs.Views.{text_of}
 use Rattle.lucy_naming.specs.Faults.{Within, result_fault, result_faults, node_faults}
 use Rattle.lucy_place.specs.Standing.{most_places}
-use Rattle.lucy_naming.specs.Numbering.{Next, Known, stream_place}
-use Rattle.lucy_naming.specs.Nodes.{declared_entry, past_defs, defined, rights, first_next, known_in, placed_node}
+use Rattle.lucy_naming.specs.Numbering.{Next}
+use Rattle.lucy_naming.specs.Places.{Known, stream_place, declared_entry, known_in}
+use Rattle.lucy_naming.specs.Nodes.{past_defs, defined, rights, first_next, placed_node}
 use Rattle.lucy_place.specs.Proper.{at_one, Stands, ArePlaces, IsNamed, AreNamed, IsProperCall, IsProperNode}
 use Rattle.lucy_naming.proofs.EachLaws.{Each, each_one}
 use Rattle.lucy_naming.proofs.Spread.{Call, Reaches, reaches_join}

@@ -8,17 +8,18 @@ use Rattle.lucy_tree.specs.Shaped.{IsCall, Defines, IsShapedDef}
 use Rattle.lucy_place.specs.declared.entry.PlaceEntry.{PlaceEntry}
 use Rattle.lucy_place.specs.declared.entry.PlaceKind.TheVariants as kind
 use Rattle.lucy_place.specs.declared.placed.PlacedNode.{PlacedNode}
-use Rattle.lucy_naming.specs.Streams.{wanted}
+use Rattle.lucy_naming.specs.Streams.{result_count}
 use Rattle.lucy_naming.specs.Phrases.{Called, Phrase, Phrases, name, headed, none, and, phrase_of, count, phrases_of}
 use Rattle.lucy_naming.specs.Faults.{Within, head_faults, phrase_faults, phrases_faults, def_faults}
-use Rattle.lucy_naming.specs.Numbering.{Next, Known, past, inside, number, numbers, entries, all_entries, own_entries, unnamed, results_from}
-use Rattle.lucy_naming.specs.Nodes.{past_def, left_entries, defined, rights}
+use Rattle.lucy_naming.specs.Numbering.{Next, past, inside, number, numbers, entries, all_entries, own_entries}
+use Rattle.lucy_naming.specs.Places.{Known, unnamed, results_from, left_entries}
+use Rattle.lucy_naming.specs.Nodes.{past_def, defined, rights}
 use Rattle.lucy_place.specs.Proper.{at_one, IsPlace, ArePlaces}
 use Rattle.lucy_naming.proofs.EachLaws.{Each, each_join, each_front, each_at}
 use Rattle.lucy_naming.proofs.Spread.{Call, Reaches, spread_join, spread_front, spread_back}
 use Rattle.lucy_naming.proofs.CallLaws.{made, all_made, own_made, def_made, reaches_own, reaches_phrase}
 use Rattle.lucy_naming.proofs.ShapeLaws.{Takes, HasShape, HaveShape, has_shape, count_numbers}
-use Rattle.lucy_naming.proofs.RoomLaws.{wanted_some, length_lefts}
+use Rattle.lucy_naming.proofs.RoomLaws.{some_results, length_lefts}
 use Rattle.lucy_naming.proofs.VerdictLaws.{none_front, none_back}
 use Rattle.lucy_naming.proofs.Good.{known_of, Lies, GoodPlace, GoodBuffer, GoodCall, Good, Setting, is_place, named_place}
 use Rattle.lucy_naming.proofs.OwnPlaces.{unless_holds, slice_results, own_good}
@@ -95,7 +96,7 @@ module _ (w : Within) (above : List PlacedNode) (n : PlacedNode) (cs : List Call
       is_place n (at.place + j) (unnamed (kind.Result at.call (0 + j)))
       (each_at (λ p e. at_one n.places p ≡ Some e) at.place (results_from at.call 0 r) j (at.place + j) (unnamed (kind.Result at.call (0 + j))) refl (slice_results at.call 0 r j h) own)
 
-  left_numbers : (at : Next) (left : List Decl) (t : Tree) → Defines left t → IsPlace n (number k at (phrase_of t)) → Lies n cs at (entries k at (wanted left) (phrase_of t)) (made k at (wanted left) (phrase_of t)) →
+  left_numbers : (at : Next) (left : List Decl) (t : Tree) → Defines left t → IsPlace n (number k at (phrase_of t)) → Lies n cs at (entries k at (result_count left) (phrase_of t)) (made k at (result_count left) (phrase_of t)) →
       (j : ℕ) → j < length left → IsPlace n (number k at (phrase_of t) + j)
   left_numbers at [] t d first lies j h = absurd d
   left_numbers at (a ∷ []) t d first lies j h = let e : number k at (phrase_of t) ≡ number k at (phrase_of t) + j = omega (arith, h) in subst (IsPlace n) e first
@@ -117,12 +118,12 @@ module _ (w : Within) (above : List PlacedNode) (n : PlacedNode) (cs : List Call
   pub defs_good : (at : Next) (ds : List DefTree) → n.params < at.place → AllByRecursion IsShapedDef ds → def_faults w ds ≡ [] → Lies n cs at (rights k at ds) (def_made k at ds) → GoodDefs at ds
   defs_good at [] low shape good lies = record { rights = record { places = tt; buffers = tt; calls = tt }; defined = λ from l. tt }
   defs_good at (d ∷ ds) low shape good lies =
-      let r : ℕ = wanted d.left in
+      let r : ℕ = result_count d.left in
       let f : Phrase = phrase_of d.right in
       let next : Next = past_def at d in
       let front = lies_front n cs at next (entries k at r f) (rights k next ds) (made k at r f) (def_made k next ds) (reaches_phrase k at r f) lies in
       let back = lies_back n cs at next (entries k at r f) (rights k next ds) (made k at r f) (def_made k next ds) (reaches_phrase k at r f) lies in
-      let first = phrase_good at r f (wanted_some d.left) low (has_shape d.right shape.0.right) (none_front (phrase_faults w r f) (def_faults w ds) good) front in
+      let first = phrase_good at r f (some_results d.left) low (has_shape d.right shape.0.right) (none_front (phrase_faults w r f) (def_faults w ds) good) front in
       let rest = defs_good next ds (omega (arith, low)) shape.1 (none_back (phrase_faults w r f) (def_faults w ds) good) back in
       record {
         rights = good_join n cs at next (entries k at r f) (rights k next ds) (made k at r f) (def_made k next ds) (reaches_phrase k at r f) above first.good rest.rights;

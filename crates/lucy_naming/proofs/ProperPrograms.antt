@@ -8,8 +8,8 @@ use Rattle.lucy_tree.specs.View.{NodeTree, ProgramTree}
 use Rattle.lucy_tree.specs.Shaped.{IsShapedNode, IsShapedProgram}
 use Rattle.lucy_place.specs.declared.placed.PlacedNode.{PlacedNode}
 use Rattle.lucy_naming.specs.Faults.{node_faults, nodes_faults, faults}
-use Rattle.lucy_naming.specs.Numbering.{stream_place}
-use Rattle.lucy_naming.specs.Nodes.{known_in, placed_node, placed_below, placed_nodes}
+use Rattle.lucy_naming.specs.Places.{stream_place, known_in}
+use Rattle.lucy_naming.specs.Nodes.{placed_node, placed_below, placed_nodes}
 use Rattle.lucy_place.specs.Proper.{IsProperNode, AreProper}
 use Rattle.lucy_naming.proofs.VerdictLaws.{none_front, none_back}
 use Rattle.lucy_naming.proofs.Good.{Callee}

@@ -11,9 +11,11 @@ use Rattle.lucy_tree.specs.Shaped.{IsShapedNode}
 use Rattle.lucy_place.specs.declared.entry.PlaceEntry.{PlaceEntry}
 use Rattle.lucy_place.specs.declared.entry.PlaceKind.TheVariants as kind
 use Rattle.lucy_place.specs.declared.placed.PlacedNode.{PlacedNode}
-use Rattle.lucy_naming.specs.Streams.{text_of, streams, declared, def_names}
+use Rattle.lucy_naming.specs.Streams.{streams, declared, def_names}
+use Rattle.lucy_naming.specs.Views.{text_of}
 use Rattle.lucy_naming.specs.Faults.{node_faults}
-use Rattle.lucy_naming.specs.Nodes.{past_defs, declared_entry, first_next}
+use Rattle.lucy_naming.specs.Nodes.{past_defs, first_next}
+use Rattle.lucy_naming.specs.Places.{declared_entry}
 use Rattle.lucy_place.specs.Proper.{reads_of, Reads, IsUnnamed, IsReadOnce}
 use Rattle.lucy_naming.proofs.CallLaws.{def_sites_are, reaches_defs}
 use Rattle.lucy_naming.proofs.RoomLaws.{length_defined}

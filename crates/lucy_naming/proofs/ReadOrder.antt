@@ -12,17 +12,19 @@ use Rattle.lucy_place.specs.declared.entry.PlaceEntry.{PlaceEntry}
 use Rattle.lucy_place.specs.declared.entry.PlaceKind.TheVariants as kind
 use Rattle.lucy_place.specs.declared.placed.PlacedNode.{PlacedNode}
 use Rattle.lucy_naming.specs.Texts.{is_text, is_in, place_in}
-use Rattle.lucy_naming.specs.Streams.{text_of, streams, declared, def_names, wanted, node_names}
+use Rattle.lucy_naming.specs.Streams.{streams, declared, def_names, result_count, node_names}
+use Rattle.lucy_naming.specs.Views.{text_of}
 use Rattle.lucy_naming.specs.Phrases.{Head, Literal, Applied, Host, Sampled, Merged, Followed, Buffered, Called, Phrase, Phrases, name, headed, none, and, phrase_of, count}
 use Rattle.lucy_naming.specs.Faults.{Within as Scope, head_faults, phrase_faults, phrases_faults, def_faults, node_faults}
-use Rattle.lucy_naming.specs.Numbering.{Next, Known, past, inside, number, numbers, entries, all_entries, own_entries, results_from, stream_place}
-use Rattle.lucy_naming.specs.Nodes.{past_def, declared_entry, rights, first_next}
+use Rattle.lucy_naming.specs.Numbering.{Next, past, inside, number, numbers, entries, all_entries, own_entries}
+use Rattle.lucy_naming.specs.Places.{Known, results_from, stream_place, declared_entry}
+use Rattle.lucy_naming.specs.Nodes.{past_def, rights, first_next}
 use Rattle.lucy_place.specs.Proper.{arguments_of, reads_of, IsUnnamed, IsReadOnce, at_one}
 use Rattle.lucy_naming.proofs.EachLaws.{Each, each_join, each_made, each_one}
 use Rattle.lucy_naming.proofs.Spread.{Call}
 use Rattle.lucy_naming.proofs.CallLaws.{site, made, all_made, own_made, def_made, reaches_own, reaches_phrase, def_sites_are}
 use Rattle.lucy_naming.proofs.ShapeLaws.{Takes, HasShape, HaveShape, has_shape, count_numbers}
-use Rattle.lucy_naming.proofs.RoomLaws.{wanted_some, length_defined}
+use Rattle.lucy_naming.proofs.RoomLaws.{some_results, length_defined}
 use Rattle.lucy_naming.proofs.VerdictLaws.{none_front, none_back}
 use Rattle.lucy_naming.proofs.Good.{known_of, Lies}
 use Rattle.lucy_naming.proofs.OwnPlaces.{unless_holds, site_at}
@@ -138,14 +140,14 @@ module _ (sc : Scope) (m : PlacedNode) (calls_of : List Call) (calls : m.calls �
   pub defs_ahead : (at : Next) (defs : List DefTree) → AllByRecursion IsShapedDef defs → def_faults sc defs ≡ [] → Lies m calls_of at (rights kn at defs) (def_made kn at defs) → Each Ahead at.place (rights kn at defs)
   defs_ahead at [] shape good lies = tt
   defs_ahead at (d ∷ defs) shape good lies =
-      let r : ℕ = wanted d.left in
+      let r : ℕ = result_count d.left in
       let f : Phrase = phrase_of d.right in
       let next : Next = past_def at d in
       let reach = reaches_phrase kn at r f in
       let front = lies_front m calls_of at next (entries kn at r f) (rights kn next defs) (made kn at r f) (def_made kn next defs) reach lies in
       let back = lies_back m calls_of at next (entries kn at r f) (rights kn next defs) (made kn at r f) (def_made kn next defs) reach lies in
       each_join Ahead at.place next.place (entries kn at r f) (rights kn next defs) reach.place
-      (phrase_ahead at r f (wanted_some d.left) (has_shape d.right shape.0.right) (none_front (phrase_faults sc r f) (def_faults sc defs) good) front)
+      (phrase_ahead at r f (some_results d.left) (has_shape d.right shape.0.right) (none_front (phrase_faults sc r f) (def_faults sc defs) good) front)
       (defs_ahead next defs shape.1 (none_back (phrase_faults sc r f) (def_faults sc defs) good) back)
 
 module _ (ops : List Operator) (all above : ProgramTree) (t : NodeTree) (shape : IsShapedNode t) (clean : node_faults ops all above t ≡ []) where

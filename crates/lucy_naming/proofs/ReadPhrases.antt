@@ -10,17 +10,18 @@ use Rattle.lucy_tree.specs.Shaped.{Defines, IsShapedDef}
 use Rattle.lucy_place.specs.declared.entry.PlaceEntry.{PlaceEntry}
 use Rattle.lucy_place.specs.declared.placed.PlacedNode.{PlacedNode}
 use Rattle.lucy_naming.specs.Texts.{is_text, is_in, place_in}
-use Rattle.lucy_naming.specs.Streams.{wanted, node_names}
+use Rattle.lucy_naming.specs.Streams.{result_count, node_names}
 use Rattle.lucy_naming.specs.Phrases.{Head, Literal, Applied, Host, Sampled, Merged, Followed, Buffered, Called, Phrase, Phrases, name, headed, none, and, phrase_of, count}
 use Rattle.lucy_naming.specs.Faults.{Within as Scope, head_faults, phrase_faults, phrases_faults, def_faults}
-use Rattle.lucy_naming.specs.Numbering.{Next, Known, own_rooms, past, past_all, inside, number, numbers, entries, all_entries, own_entries, results_from, stream_place}
-use Rattle.lucy_naming.specs.Nodes.{past_def, past_defs, left_entries, defined, rights}
+use Rattle.lucy_naming.specs.Numbering.{Next, own_rooms, past, past_all, inside, number, numbers, entries, all_entries, own_entries}
+use Rattle.lucy_naming.specs.Places.{Known, results_from, stream_place, left_entries}
+use Rattle.lucy_naming.specs.Nodes.{past_def, past_defs, defined, rights}
 use Rattle.lucy_place.specs.Proper.{arguments_of, at_one}
 use Rattle.lucy_naming.proofs.Spread.{Call}
 use Rattle.lucy_naming.proofs.CallLaws.{site, made, all_made, own_made, def_made, reaches_own, reaches_phrase}
 use Rattle.lucy_naming.proofs.ShapeLaws.{Takes, HasShape, HaveShape, has_shape, count_numbers}
 use Rattle.lucy_naming.proofs.DraftLaws.{inside_past}
-use Rattle.lucy_naming.proofs.RoomLaws.{wanted_some}
+use Rattle.lucy_naming.proofs.RoomLaws.{some_results}
 use Rattle.lucy_naming.proofs.VerdictLaws.{none_front, none_back}
 use Rattle.lucy_naming.proofs.Good.{known_of, Lies}
 use Rattle.lucy_naming.proofs.OwnPlaces.{unless_holds, site_at}
@@ -150,24 +151,24 @@ module _ (w : Scope) (n : PlacedNode) (cs : List Call) (calls : n.calls ≡ map 
   Fits (d ∷ e ∷ left) (headed (Called t base) span fs) = Unit {0}
   Fits (d ∷ e ∷ left) f = ⊥
 
-  lefts_rooms : (left : List Decl) (h : Head) (span : Span) (fs : Phrases) → Fits left (headed h span fs) → length left ≡ own_rooms (wanted left) h
+  lefts_rooms : (left : List Decl) (h : Head) (span : Span) (fs : Phrases) → Fits left (headed h span fs) → length left ≡ own_rooms (result_count left) h
   lefts_rooms [] h span fs fit = absurd fit
   lefts_rooms (d ∷ []) h span fs fit = sym (own_one h)
   lefts_rooms (d ∷ e ∷ left) (Called t base) span fs fit = refl
   lefts_rooms (d ∷ e ∷ left) h span fs fit = absurd fit
 
-  def_count : (at : Next) (left : List Decl) (f : Phrase) → Fits left f → length w.streams < at.place → HasShape f → phrase_faults w (wanted left) f ≡ [] →
-      Lies n cs at (entries k at (wanted left) f) (made k at (wanted left) f) →
-      Within at.place (past at (wanted left) f).place q (total n q (left_entries (number k at f) left) + total n q (entries k at (wanted left) f))
+  def_count : (at : Next) (left : List Decl) (f : Phrase) → Fits left f → length w.streams < at.place → HasShape f → phrase_faults w (result_count left) f ≡ [] →
+      Lies n cs at (entries k at (result_count left) f) (made k at (result_count left) f) →
+      Within at.place (past at (result_count left) f).place q (total n q (left_entries (number k at f) left) + total n q (entries k at (result_count left) f))
   def_count at [] (name t) fit low shape good lies = absurd fit
   def_count at (d ∷ []) (name t) fit low shape good lies = within_none at.place (at.place + 0) q _ (omega arith) (omega (arith, stream_other t (unless_holds _ _ good)))
   def_count at (d ∷ e ∷ left) (name t) fit low shape good lies = absurd fit
   def_count at left (headed h span fs) fit low shape good lies =
-      let rest = phrase_count at (wanted left) (headed h span fs) (wanted_some left) low shape good lies in
+      let rest = phrase_count at (result_count left) (headed h span fs) (some_results left) low shape good lies in
       let rooms_are = lefts_rooms left h span fs fit in
-      let first : Within at.place (at.place + own_rooms (wanted left) h) q (total n q (left_entries at.place left)) =
+      let first : Within at.place (at.place + own_rooms (result_count left) h) q (total n q (left_entries at.place left)) =
       subst (λ m. Within at.place (at.place + m) q (total n q (left_entries at.place left))) rooms_are (lefts_count at.place left) in
-      within_join at.place (at.place + own_rooms (wanted left) h) (past at (wanted left) (headed h span fs)).place q (total n q (left_entries at.place left)) (total n q (entries k at (wanted left) (headed h span fs))) _
+      within_join at.place (at.place + own_rooms (result_count left) h) (past at (result_count left) (headed h span fs)).place q (total n q (left_entries at.place left)) (total n q (entries k at (result_count left) (headed h span fs))) _
       (omega arith) (omega arith) first rest refl
 
   fits_of : (left : List Decl) (t : Tree) → Defines left t → Fits left (phrase_of t)
@@ -191,7 +192,7 @@ module _ (w : Scope) (n : PlacedNode) (cs : List Call) (calls : n.calls ≡ map 
       Within at.place (past_defs at ds).place q (total n q (defined k at ds) + total n q (rights k at ds))
   defs_count at [] low shape good lies = within_none at.place at.place q (0 + 0) refl (omega arith)
   defs_count at (d ∷ ds) low shape good lies =
-      let r : ℕ = wanted d.left in
+      let r : ℕ = result_count d.left in
       let f : Phrase = phrase_of d.right in
       let next : Next = past_def at d in
       let front = lies_front n cs at next (entries k at r f) (rights k next ds) (made k at r f) (def_made k next ds) (reaches_phrase k at r f) lies in

@@ -7,7 +7,7 @@ use Rattle.std.proofs.lemmas.Map.Made.{length-le_from_is_member}
 use Rattle.lucy_tree.specs.declared.span.Name.{Name}
 use Rattle.lucy_naming.specs.declared.error.NameError.{NameError}
 use Rattle.lucy_naming.specs.Texts.{is_text, is_in}
-use Rattle.lucy_naming.specs.Streams.{text_of}
+use Rattle.lucy_naming.specs.Views.{text_of}
 use Rattle.lucy_naming.specs.Faults.{unless, result_fault, result_faults}
 use Rattle.lucy_naming.proofs.VerdictLaws.{none_front, none_back}
 use Rattle.lucy_naming.proofs.NameLaws.{behind_one}

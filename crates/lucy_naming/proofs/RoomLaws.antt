@@ -3,17 +3,20 @@ use Rattle.std.proofs.Common.{◌≡◌, ◌+◌, ◌≤◌, ℕ, zero, suc, dro
 use Rattle.std.proofs.lemmas.List.{length-map}
 use Rattle.std.proofs.lemmas.List.Sums.{prefix_len-le-length}
 use Rattle.lucy_place.specs.declared.entry.PlaceEntry.{PlaceEntry}
+use Rattle.lucy_place.specs.declared.placed.PlacedNode.{PlacedNode}
 use Rattle.lucy_place.specs.declared.entry.PlaceKind.TheVariants.{Param}
 use Rattle.lucy_naming.specs.Texts.{is_text}
-use Rattle.lucy_naming.proofs.DraftLaws.{length_results}
+use Rattle.lucy_naming.proofs.PartsLaws.{length_phrase, node_same}
 use Rattle.lucy_tree.specs.declared.decl.Decl.{Decl}
 use Rattle.lucy_tree.specs.declared.program.Def.{Def}
-use Rattle.lucy_tree.specs.View.{DefTree, NodeTree, def_tree}
-use Rattle.lucy_naming.specs.Streams.{declared, def_names, wanted}
+use Rattle.lucy_tree.specs.View.{DefTree, NodeTree, ProgramTree, def_tree}
+use Rattle.lucy_host.specs.Operators.{Operator}
+use Rattle.lucy_naming.specs.Streams.{declared, def_names, result_count}
 use Rattle.lucy_naming.specs.Phrases.{Head, Literal, Applied, Host, Sampled, Merged, Followed, Buffered, Called, Phrase, Phrases, name, headed, none, and, phrase_of}
 use Rattle.lucy_place.specs.Standing.{most_places}
-use Rattle.lucy_naming.specs.Numbering.{Next, Known, past, inside, number, numbers, entries, all_entries, own_entries, rooms, all_rooms, bounds, all_bounds, calls, all_calls, own_rooms, own_bounds, own_calls, def_rooms, node_rooms}
-use Rattle.lucy_naming.specs.Nodes.{past_def, past_defs, first_next, declared_entry, left_entries, defined, rights, node_entries}
+use Rattle.lucy_naming.specs.Numbering.{Next, number, entries, rooms, all_rooms, bounds, all_bounds, calls, all_calls, own_rooms, own_calls, def_rooms, node_rooms}
+use Rattle.lucy_naming.specs.Places.{Known, known_in, own_bounds, declared_entry, left_entries, as_placed}
+use Rattle.lucy_naming.specs.Nodes.{past_def, past_defs, first_next, defined, rights, node_entries}
 use Rattle.lucy_naming.specs.Drafts.{IsSmall}
 
 own_few : (r : ℕ) (h : Head) → 1 ≤ r → (length (own_bounds h) ≤ own_rooms r h) × (own_calls h ≤ own_rooms r h)
@@ -41,15 +44,15 @@ mutual
       let more = all_few fs in
       (omega (arith, first.0, more.0, length-append (bounds f) (all_bounds fs)), omega (arith, first.1, more.1))
 
-pub wanted_some : (ds : List Decl) → 1 ≤ wanted ds
-wanted_some [] = omega arith
-wanted_some (d ∷ ds) = omega arith
+pub some_results : (ds : List Decl) → 1 ≤ result_count ds
+some_results [] = omega arith
+some_results (d ∷ ds) = omega arith
 
 pub past_few : (at : Next) (ds : List DefTree) →
     ((past_defs at ds).place ≡ at.place + def_rooms ds) × ((past_defs at ds).buffer ≤ at.buffer + def_rooms ds) × ((past_defs at ds).call ≤ at.call + def_rooms ds)
 past_few at [] = (omega arith, omega arith, omega arith)
 past_few at (d ∷ ds) =
-    let own = few (wanted d.left) (phrase_of d.right) (wanted_some d.left) in
+    let own = few (result_count d.left) (phrase_of d.right) (some_results d.left) in
     let more = past_few (past_def at d) ds in
     (omega (arith, more.0), omega (arith, more.1, own.0), omega (arith, more.2, own.1))
 
@@ -64,30 +67,6 @@ number_few k at (name n) few here = omega (arith, prefix_len-le-length (λ t. no
 number_few k at (headed h span fs) few here = here
 
 -- as many places as were counted
-length_own : (k : Known) (at : Next) (r : ℕ) (h : Head) (args : List ℕ) → length (own_entries k at r h args) ≡ own_rooms r h
-length_own k at r (Literal l) args = refl
-length_own k at r (Applied o) args = refl
-length_own k at r (Host n) args = refl
-length_own k at r (Sampled flip w) args = refl
-length_own k at r (Merged w) args = refl
-length_own k at r (Followed l) args = refl
-length_own k at r (Buffered most) args = refl
-length_own k at r (Called n base) args = length_results at.call 0 r
-
-mutual
-  length_entries : (k : Known) (at : Next) (r : ℕ) (f : Phrase) → length (entries k at r f) ≡ rooms r f
-  length_entries k at r (name n) = refl
-  length_entries k at r (headed h span fs) =
-      let in_ : Next = inside at r h in
-      length-append (own_entries k at r h (numbers k in_ fs)) (all_entries k in_ fs)
-      ∙ ap (λ n. n + length (all_entries k in_ fs)) (length_own k at r h (numbers k in_ fs)) ∙ ap (λ n. own_rooms r h + n) (length_all k in_ fs)
-
-  length_all : (k : Known) (at : Next) (fs : Phrases) → length (all_entries k at fs) ≡ all_rooms fs
-  length_all k at none = refl
-  length_all k at (and f fs) =
-      length-append (entries k at 1 f) (all_entries k (past at 1 f) fs)
-      ∙ ap (λ n. n + length (all_entries k (past at 1 f) fs)) (length_entries k at 1 f) ∙ ap (λ n. rooms 1 f + n) (length_all k (past at 1 f) fs)
-
 pub length_lefts : (right : ℕ) (ds : List Decl) → length (left_entries right ds) ≡ length ds
 length_lefts right [] = refl
 length_lefts right (d ∷ ds) = omega (arith, length_lefts (right + 1) ds)
@@ -103,9 +82,9 @@ length_defined k at (d ∷ ds) =
 pub length_rights : (k : Known) (at : Next) (ds : List DefTree) → length (rights k at ds) ≡ def_rooms ds
 length_rights k at [] = refl
 length_rights k at (d ∷ ds) =
-    let r : ℕ = wanted d.left in
+    let r : ℕ = result_count d.left in
     let a = length-append (entries k at r (phrase_of d.right)) (rights k (past_def at d) ds) in
-    omega (arith, a, length_entries k at r (phrase_of d.right), length_rights k (past_def at d) ds)
+    omega (arith, a, (length_phrase k at r (phrase_of d.right)).0, length_rights k (past_def at d) ds)
 
 pub length_node : (k : Known) (n : NodeTree) → length (node_entries k n) ≡ node_rooms n
 length_node k n =
@@ -114,6 +93,10 @@ length_node k n =
     let b = length-append (defined k (first_next n) n.defs) (rights k (first_next n) n.defs) in
     let c = length-append (declared n.params) (def_names n.defs) in
     omega (arith, a, b, c, length-map n.params (declared_entry Param), length-map n.params (λ (x : Decl). x.name), length_defined k (first_next n) n.defs, length_rights k (first_next n) n.defs)
+
+-- so has a node that is read off its tree
+pub length_placed : (ops : List Operator) (above : ProgramTree) (n : NodeTree) → length (as_placed ops above n).places ≡ node_rooms n
+length_placed ops above n = ap (λ (m : PlacedNode). length m.places) (node_same ops above n) ∙ length_node (known_in ops above n) n
 
 -- numbers before definitions are small where those behind them are
 defs_before : (at : Next) (ds : List DefTree) → (at.place ≤ (past_defs at ds).place) × (at.buffer ≤ (past_defs at ds).buffer) × (at.call ≤ (past_defs at ds).call)

@@ -16,7 +16,7 @@ use Rattle.lucy_place.specs.declared.entry.PlaceEntry.{PlaceEntry}
 use Rattle.lucy_place.specs.declared.entry.PlaceKind.{PlaceKind}
 use Rattle.lucy_place.specs.declared.entry.PlaceKind.TheVariants as kind
 use Rattle.lucy_naming.specs.Faults.{faults}
-use Rattle.lucy_naming.specs.Nodes.{placed_node}
+use Rattle.lucy_naming.specs.Places.{as_placed}
 use Rattle.lucy_naming.specs.Written.{first_unwritten}
 
 -- a token of so many bytes at an offset
@@ -51,11 +51,11 @@ sum = record {
   defs = record { left = bare (nm (codes "o") 29) ∷ []; right = operator op.Add (two (variable (nm (codes "x") 33)) (followed (lit.Int (pos 0)) (variable (nm (codes "o") 44)) (at 40))) (at 35) } ∷ [];
 }
 
-sum_places : kinds (placed_node [] [] sum).places ≡ kind.Param ∷ kind.Defined 3 ∷ kind.Op op.Add (1 ∷ 4 ∷ []) ∷ kind.Fby (lit.Int (pos 0)) 2 ∷ []
+sum_places : kinds (as_placed [] [] sum).places ≡ kind.Param ∷ kind.Defined 3 ∷ kind.Op op.Add (1 ∷ 4 ∷ []) ∷ kind.Fby (lit.Int (pos 0)) 2 ∷ []
 unfolding sum
 sum_places = refl
 
-sum_results : (placed_node [] [] sum).results ≡ 2 ∷ []
+sum_results : (as_placed [] [] sum).results ≡ 2 ∷ []
 unfolding sum
 sum_results = refl
 
@@ -76,15 +76,15 @@ lag = record {
   defs = record { left = bare (nm (codes "y") 29) ∷ []; right = operator op.Add (two (variable (nm (codes "x") 33)) (buffered (Some 3) (sampled true (variable (nm (codes "x") 45)) half) (at 37))) (at 35) } ∷ [];
 }
 
-lag_places : kinds (placed_node [] [] lag).places ≡ kind.Param ∷ kind.Defined 3 ∷ kind.Op op.Add (1 ∷ 4 ∷ []) ∷ kind.Buffer 1 5 ∷ kind.When 1 other_half ∷ []
+lag_places : kinds (as_placed [] [] lag).places ≡ kind.Param ∷ kind.Defined 3 ∷ kind.Op op.Add (1 ∷ 4 ∷ []) ∷ kind.Buffer 1 5 ∷ kind.When 1 other_half ∷ []
 unfolding lag
 lag_places = refl
 
-lag_buffers : (placed_node [] [] lag).buffers ≡ 4 ∷ []
+lag_buffers : (as_placed [] [] lag).buffers ≡ 4 ∷ []
 unfolding lag
 lag_buffers = refl
 
-lag_bounds : (placed_node [] [] lag).bounds ≡ Some 3 ∷ []
+lag_bounds : (as_placed [] [] lag).bounds ≡ Some 3 ∷ []
 unfolding lag
 lag_bounds = refl
 
@@ -97,39 +97,75 @@ twin = record {
   defs = record { left = bare (nm (codes "y") 30) ∷ []; right = buffered (Some 3) (buffered None (variable (nm (codes "x") 51)) (at 44)) (at 34) } ∷ [];
 }
 
-twin_buffers : (placed_node [] [] twin).buffers ≡ 3 ∷ 4 ∷ []
+twin_buffers : (as_placed [] [] twin).buffers ≡ 3 ∷ 4 ∷ []
 unfolding twin
 twin_buffers = refl
 
-twin_bounds : (placed_node [] [] twin).bounds ≡ Some 3 ∷ None ∷ []
+twin_bounds : (as_placed [] [] twin).bounds ≡ Some 3 ∷ None ∷ []
 unfolding twin
 twin_bounds = refl
 
--- let node both z = (p, q) where rec (p, q) = pair at (10) (sum (z), 1) and the like
+-- let node pairs x = y where rec y = buffer (x when (10)) + buffer 3 (x whenot (10))
+pairs : NodeTree
+pairs = record {
+  name = nm (codes "pairs") 9;
+  params = bare (nm (codes "x") 15) ∷ [];
+  results = nm (codes "y") 19 ∷ [];
+  defs = record {
+    left = bare (nm (codes "y") 31) ∷ [];
+    right = operator op.Add (two (buffered None (sampled false (variable (nm (codes "x") 43)) half) (at 35)) (buffered (Some 3) (sampled true (variable (nm (codes "x") 70)) half) (at 60))) (at 58);
+  } ∷ [];
+}
+
+pairs_places : kinds (as_placed [] [] pairs).places ≡ kind.Param ∷ kind.Defined 3 ∷ kind.Op op.Add (4 ∷ 6 ∷ []) ∷ kind.Buffer 1 5 ∷ kind.When 1 half ∷ kind.Buffer 2 7 ∷ kind.When 1 other_half ∷ []
+unfolding pairs
+pairs_places = refl
+
+pairs_buffers : (as_placed [] [] pairs).buffers ≡ 4 ∷ 6 ∷ []
+unfolding pairs
+pairs_buffers = refl
+
+pairs_bounds : (as_placed [] [] pairs).bounds ≡ None ∷ Some 3 ∷ []
+unfolding pairs
+pairs_bounds = refl
+
+-- let node pair (a, b) = (b, a), whose results are parameters, and let node both z = (p, q, m) where rec (p, q) = pair at (10) (sum (z), 1) and m = host max (q, sum (p))
 pair : NodeTree
-pair = record { name = nm (codes "pair") 0; params = bare (nm (codes "a") 1) ∷ bare (nm (codes "b") 2) ∷ []; results = nm (codes "a") 3 ∷ nm (codes "b") 4 ∷ []; defs = [] }
+pair = record { name = nm (codes "pair") 0; params = bare (nm (codes "a") 1) ∷ bare (nm (codes "b") 2) ∷ []; results = nm (codes "b") 3 ∷ nm (codes "a") 4 ∷ []; defs = [] }
 
 both : NodeTree
 both = record {
   name = nm (codes "both") 10;
   params = bare (nm (codes "z") 11) ∷ [];
-  results = nm (codes "q") 12 ∷ [];
+  results = nm (codes "p") 12 ∷ nm (codes "q") 13 ∷ nm (codes "m") 14 ∷ [];
   defs = record {
-    left = bare (nm (codes "p") 13) ∷ bare (nm (codes "q") 14) ∷ [];
-    right = call (nm (codes "pair") 15) (Some half) (two (call (nm (codes "sum") 16) None (more (variable (nm (codes "z") 17)) no_more)) (literal (lit.Int (pos 1)) (at 18)));
+    left = bare (nm (codes "p") 15) ∷ bare (nm (codes "q") 16) ∷ [];
+    right = call (nm (codes "pair") 17) (Some half) (two (call (nm (codes "sum") 18) None (more (variable (nm (codes "z") 19)) no_more)) (literal (lit.Int (pos 1)) (at 20)));
+  } ∷ record {
+    left = bare (nm (codes "m") 21) ∷ [];
+    right = host (nm (codes "max") 22) (two (variable (nm (codes "q") 23)) (call (nm (codes "sum") 24) None (more (variable (nm (codes "p") 25)) no_more)));
   } ∷ [];
 }
 
-both_places : kinds (placed_node [] (sum ∷ pair ∷ []) both).places ≡ kind.Param ∷ kind.Defined 4 ∷ kind.Defined 5 ∷ kind.Result 1 0 ∷ kind.Result 1 1 ∷ kind.Result 2 0 ∷ kind.Lit (lit.Int (pos 1)) ∷ []
-unfolding sum pair both
+extremes : List Operator
+extremes = record { name = codes "min"; kind = Min } ∷ record { name = codes "max"; kind = Max } ∷ []
+
+pair_results : (as_placed [] [] pair).results ≡ 2 ∷ 1 ∷ []
+unfolding pair
+pair_results = refl
+
+both_places : kinds (as_placed extremes (sum ∷ pair ∷ []) both).places ≡ kind.Param ∷ kind.Defined 5 ∷ kind.Defined 6 ∷ kind.Defined 9
+    ∷ kind.Result 1 0 ∷ kind.Result 1 1 ∷ kind.Result 2 0 ∷ kind.Lit (lit.Int (pos 1)) ∷ kind.Host 1 3 10 ∷ kind.Result 3 0 ∷ []
+unfolding sum pair both extremes
 both_places = refl
 
-both_calls : (placed_node [] (sum ∷ pair ∷ []) both).calls ≡ record { node = 1; at = Some half; first = 4; args = 6 ∷ 7 ∷ [] } ∷ record { node = 0; at = None; first = 6; args = 1 ∷ [] } ∷ []
-unfolding sum pair both
+both_calls : (as_placed extremes (sum ∷ pair ∷ []) both).calls ≡ record { node = 1; at = Some half; first = 5; args = 7 ∷ 8 ∷ [] } ∷ record { node = 0; at = None; first = 7; args = 1 ∷ [] }
+    ∷ record { node = 0; at = None; first = 10; args = 2 ∷ [] } ∷ []
+unfolding sum pair both extremes
 both_calls = refl
 
-both_good : faults [] (sum ∷ pair ∷ both ∷ []) ≡ []
-unfolding sum pair both
+both_good : faults extremes (sum ∷ pair ∷ both ∷ []) ≡ []
+unfolding sum pair both extremes
 both_good = refl
 
 -- let node f x = y where rec y = e
@@ -171,14 +207,11 @@ top called = record {
   defs = record { left = bare (nm (codes "m") 29) ∷ []; right = host called (two (variable (nm (codes "x") 43)) (followed (lit.Int (pos 0)) (variable (nm (codes "m") 52)) (at 48))) } ∷ [];
 }
 
-extremes : List Operator
-extremes = record { name = codes "min"; kind = Min } ∷ record { name = codes "max"; kind = Max } ∷ []
-
 top_good : faults extremes (top (nm (codes "max") 38) ∷ []) ≡ []
 unfolding top extremes
 top_good = refl
 
-top_places : kinds (placed_node extremes [] (top (nm (codes "max") 38))).places ≡ kind.Param ∷ kind.Defined 3 ∷ kind.Host 1 1 4 ∷ kind.Fby (lit.Int (pos 0)) 2 ∷ []
+top_places : kinds (as_placed extremes [] (top (nm (codes "max") 38))).places ≡ kind.Param ∷ kind.Defined 3 ∷ kind.Host 1 1 4 ∷ kind.Fby (lit.Int (pos 0)) 2 ∷ []
 unfolding top extremes
 top_places = refl
 

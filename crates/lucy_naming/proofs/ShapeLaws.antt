@@ -9,7 +9,8 @@ use Rattle.lucy_tree.specs.declared.program.Node.{Node}
 use Rattle.lucy_tree.specs.View.{tree_of, def_tree, node_tree}
 use Rattle.lucy_tree.specs.Shaped.{HasZero, IsBound, IsShaped, AreShaped, IsShapedDef, IsShapedNode}
 use Rattle.lucy_naming.specs.Phrases.{Head, Literal, Applied, Host, Sampled, Merged, Followed, Buffered, Called, Phrase, Phrases, name, headed, none, and, phrase_of, phrases_of, count}
-use Rattle.lucy_naming.specs.Numbering.{Next, Known, past, numbers}
+use Rattle.lucy_naming.specs.Numbering.{Next, past, numbers}
+use Rattle.lucy_naming.specs.Places.{Known}
 
 -- a head takes so many operands; the word of `whenot` and of `merge` has a zero, and a written bound is small
 abbrev pub Takes : Head → ℕ → Type 0

@@ -8,7 +8,7 @@ use Rattle.lucy_tree.specs.declared.span.Name.{Name}
 use Rattle.lucy_tree.specs.declared.expr.Expr.{Expr}
 use Rattle.lucy_naming.specs.declared.error.NameError.{NameError}
 use Rattle.lucy_naming.specs.Phrases.{expr_phrases, count}
-use Rattle.lucy_naming.specs.Streams.{text_of}
+use Rattle.lucy_naming.specs.Views.{text_of}
 use Rattle.lucy_naming.specs.Faults.{verdict, unless, repeat, repeats}
 use Rattle.lucy_naming.specs.declared.error.NameError.TheVariants.{OutOfMemory}
 use Rattle.lucy_naming.specs.Placing.{TellsFirstFault, IsFirstFault}

@@ -8,12 +8,13 @@ use Rattle.lucy_place.specs.declared.entry.PlaceEntry.{PlaceEntry}
 use Rattle.lucy_place.specs.declared.entry.PlaceKind.TheVariants as kind
 use Rattle.lucy_place.specs.declared.placed.PlacedNode.{PlacedNode}
 use Rattle.lucy_naming.specs.Texts.{is_in}
-use Rattle.lucy_naming.specs.Streams.{wanted}
+use Rattle.lucy_naming.specs.Streams.{result_count}
 use Rattle.lucy_naming.specs.Phrases.{Phrase, phrase_of}
 use Rattle.lucy_naming.specs.Faults.{Within, def_faults, phrase_faults}
 use Rattle.lucy_naming.specs.Written.{lacking, decl_spans, phrase_spans, def_spans}
-use Rattle.lucy_naming.specs.Numbering.{Next, Known, number, entries, stream_place}
-use Rattle.lucy_naming.specs.Nodes.{past_def, declared_entry, left_entries, defined, rights}
+use Rattle.lucy_naming.specs.Numbering.{Next, number, entries}
+use Rattle.lucy_naming.specs.Places.{Known, stream_place, declared_entry, left_entries}
+use Rattle.lucy_naming.specs.Nodes.{past_def, defined, rights}
 use Rattle.lucy_place.specs.Proper.{at_one, IsNamed}
 use Rattle.lucy_place.specs.WrittenNodes.{IsWritten}
 use Rattle.lucy_naming.proofs.EachLaws.{Each, each_join, each_front, each_back}
@@ -67,7 +68,7 @@ module _ (w : Within) (n : PlacedNode) (known : (t : List ℕ) → is_in w.strea
   defs_written at [] shape good spans = record { rights = record { places = tt; buffers = tt; calls = tt }; defined = λ from. tt }
   defs_written at (d ∷ ds) shape good spans =
       let k : Known = known_of w in
-      let r : ℕ = wanted d.left in
+      let r : ℕ = result_count d.left in
       let f : Phrase = phrase_of d.right in
       let next : Next = past_def at d in
       let own = spans_front (def_spans d) (flat_map def_spans ds) spans in
@@ -89,7 +90,7 @@ module _ (w : Within) (above : List PlacedNode) (n : PlacedNode) (cs : List Call
   defs_none at [] from shape lies left = refl
   defs_none at (d ∷ ds) from shape lies left =
       let k : Known = known_of w in
-      let r : ℕ = wanted d.left in
+      let r : ℕ = result_count d.left in
       let f : Phrase = phrase_of d.right in
       let next : Next = past_def at d in
       let len = length_lefts (number k at f) d.left in

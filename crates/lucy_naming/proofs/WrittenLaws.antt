@@ -3,7 +3,7 @@ use Rattle.std.proofs.Common.{◌≡◌, List, [], ◌∷◌, Some, None, refl, 
 use Rattle.std.specs.Prelude.{fold}
 use Rattle.lucy_tree.specs.declared.span.Span.{Span}
 use Rattle.lucy_tree.specs.View.{NodeTree}
-use Rattle.lucy_naming.specs.Written.{earlier, earliest, unwritten_spans, first_unwritten}
+use Rattle.lucy_naming.specs.Written.{earlier, unwritten_spans, first_unwritten}
 
 -- of spans and one before them there is a first one
 some_first : (s : Span) (spans : List Span) → fold earlier (Some s) spans ≡ None → ⊥
@@ -14,7 +14,7 @@ some_first s (t ∷ ts) h = by (nat_lt t.from s.from) (some_first t ts) (some_fi
     by true f g = f
     by false f g = g
 
-none_none : (spans : List Span) → earliest spans ≡ None → spans ≡ []
+none_none : (spans : List Span) → fold earlier None spans ≡ None → spans ≡ []
 none_none [] h = refl
 none_none (s ∷ ss) h = absurd (some_first s ss h)
 
@@ -22,4 +22,4 @@ pub written : (n : NodeTree) → first_unwritten n ≡ None → unwritten_spans 
 written n h = none_none (unwritten_spans n) h
 
 pub unwritten : (n : NodeTree) → unwritten_spans n ≡ [] → first_unwritten n ≡ None
-unwritten n h = ap earliest h
+unwritten n h = ap (fold earlier None) h

@@ -10,11 +10,12 @@ use Rattle.lucy_place.specs.declared.entry.PlaceEntry.{PlaceEntry}
 use Rattle.lucy_place.specs.declared.entry.PlaceKind.TheVariants as kind
 use Rattle.lucy_place.specs.declared.entry.CallSite.{CallSite}
 use Rattle.lucy_place.specs.declared.placed.PlacedNode.{PlacedNode}
-use Rattle.lucy_naming.specs.Streams.{text_of, streams}
+use Rattle.lucy_naming.specs.Streams.{streams}
+use Rattle.lucy_naming.specs.Views.{text_of}
 use Rattle.lucy_naming.specs.Faults.{Within, node_faults, faults}
 use Rattle.lucy_naming.specs.Written.{decl_spans, def_spans, unwritten_spans, first_unwritten}
-use Rattle.lucy_naming.specs.Numbering.{Known}
-use Rattle.lucy_naming.specs.Nodes.{declared_entry, defined, rights, first_next, known_in, placed_node, placed_below, placed_nodes}
+use Rattle.lucy_naming.specs.Places.{Known, declared_entry, known_in}
+use Rattle.lucy_naming.specs.Nodes.{defined, rights, first_next, placed_node, placed_below, placed_nodes}
 use Rattle.lucy_place.specs.Proper.{at_one, AreNamed}
 use Rattle.lucy_place.specs.WrittenNodes.{IsWritten, TellWritten}
 use Rattle.lucy_naming.proofs.EachLaws.{each_front, each_back, each_one}

@@ -11,7 +11,8 @@ use Rattle.lucy_naming.specs.Texts.{is_in}
 use Rattle.lucy_naming.specs.Phrases.{Head, Literal, Applied, Host, Sampled, Merged, Followed, Buffered, Called, Phrase, Phrases, name, headed, none, and, count}
 use Rattle.lucy_naming.specs.Faults.{Within, head_faults, phrase_faults, phrases_faults}
 use Rattle.lucy_naming.specs.Written.{lacking, unnamed_spans, own_spans, phrase_spans, phrases_spans}
-use Rattle.lucy_naming.specs.Numbering.{Next, Known, past, inside, numbers, entries, all_entries, own_entries, results_from, stream_place}
+use Rattle.lucy_naming.specs.Numbering.{Next, past, inside, numbers, entries, all_entries, own_entries}
+use Rattle.lucy_naming.specs.Places.{Known, results_from, stream_place}
 use Rattle.lucy_place.specs.Proper.{IsNamed, AreNamed}
 use Rattle.lucy_naming.proofs.EachLaws.{Each}
 use Rattle.lucy_naming.proofs.Spread.{Call, Spread, Reaches, spread_join}

@@ -10,7 +10,8 @@ use Rattle.lucy_place.specs.declared.entry.CallSite.{CallSite}
 use Rattle.lucy_naming.specs.Texts.{place_in}
 use Rattle.lucy_naming.specs.Phrases.{Sampled, Followed, Buffered, Called, Phrase, Phrases, name, headed, none}
 use Rattle.lucy_place.specs.Standing.{most_places}
-use Rattle.lucy_naming.specs.Numbering.{Next, Known, past, past_all, entries, all_entries, sites, all_sites, own_kind, own_bounds}
+use Rattle.lucy_naming.specs.Places.{Known, own_kind, own_bounds}
+use Rattle.lucy_naming.specs.Numbering.{Next, past, past_all, entries, all_entries, sites, all_sites}
 
 -- the numbers that come next in a draft
 abbrev pub next_of : Known → Draft → Next

@@ -8,8 +8,8 @@ use Rattle.lucy_naming.specs.declared.error.NameError.{NameError}
 use Rattle.lucy_naming.specs.declared.error.NameError.TheVariants.{Unknown, Twice, NoResult, Arity, LaterNode, TooMany}
 use Rattle.lucy_naming.specs.Texts.{is_in, place_in}
 use Rattle.lucy_naming.specs.Phrases.{Head, Phrase, Phrases, name, headed, none, and, Host, Called, phrase_of, count}
-use Rattle.lucy_naming.specs.Streams.{text_of, streams, node_names, wanted}
-use Rattle.lucy_naming.specs.Numbering.{node_rooms}
+use Rattle.lucy_naming.specs.Streams.{streams, node_names, result_count}
+use Rattle.lucy_naming.specs.Places.{as_placed}
 use Rattle.lucy_place.specs.Standing.{most_places}
 
 -- the fault, where the test fails
@@ -60,7 +60,7 @@ abbrev mutual
 -- the right sides of definitions
 abbrev pub def_faults : Within → List DefTree → List NameError
 def_faults w [] = []
-def_faults w (d ∷ ds) = phrase_faults w (wanted d.left) (phrase_of d.right) ++ def_faults w ds
+def_faults w (d ∷ ds) = phrase_faults w (result_count d.left) (phrase_of d.right) ++ def_faults w ds
 
 -- a result that is no stream; else one that stands among the results before it
 abbrev pub result_fault : List (List ℕ) → List (List ℕ) → names.Name → List NameError
@@ -74,12 +74,12 @@ result_faults streams before (n ∷ ns) = result_fault streams before n ++ resul
 -- a node with these nodes above it
 abbrev pub node_faults : List Operator → ProgramTree → ProgramTree → NodeTree → List NameError
 node_faults operators all above n =
-    let texts : List (List ℕ) = map text_of (streams n) in
+    let texts : List (List ℕ) = map (λ s. s.text) (streams n) in
     unless (not (is_in (node_names above) n.name.text)) (Twice n.name.span)
     ++ (repeats [] (streams n)
     ++ (def_faults (record { operators = operators; all = all; above = above; streams = texts }) n.defs
     ++ (result_faults texts [] n.results
-    ++ unless (not (nat_lt most_places (node_rooms n))) (TooMany limit.Places))))
+    ++ unless (not (nat_lt most_places (length (as_placed operators above n).places))) (TooMany limit.Places))))
 
 -- nodes below others
 abbrev pub nodes_faults : List Operator → ProgramTree → ProgramTree → List NodeTree → List NameError

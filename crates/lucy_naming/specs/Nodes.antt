@@ -1,31 +1,21 @@
--- The places of a node, and of a program.
-use Rattle.std.specs.Prelude.{ℕ, ◌+◌, List, [], ◌∷◌, ◌++◌, Option, Some, length, map}
+-- The places of a node, and of a program, as the code counts them (see `Numbering.antt`).
+use Rattle.std.specs.Prelude.{ℕ, ◌+◌, List, [], ◌∷◌, ◌++◌, Option, length, map}
 use Rattle.std.specs.List.{flat_map}
 use Rattle.lucy_host.specs.Operators.{Operator}
-use Rattle.lucy_tree.specs.declared.decl.Decl.{Decl}
 use Rattle.lucy_tree.specs.View.{DefTree, NodeTree, ProgramTree}
 use Rattle.lucy_place.specs.declared.entry.PlaceEntry.{PlaceEntry}
-use Rattle.lucy_place.specs.declared.entry.PlaceKind.{PlaceKind}
-use Rattle.lucy_place.specs.declared.entry.PlaceKind.TheVariants.{Param, Defined}
+use Rattle.lucy_place.specs.declared.entry.PlaceKind.TheVariants.{Param}
 use Rattle.lucy_place.specs.declared.entry.CallSite.{CallSite}
 use Rattle.lucy_place.specs.declared.placed.PlacedNode.{PlacedNode}
 use Rattle.lucy_naming.specs.Phrases.{phrase_of}
-use Rattle.lucy_naming.specs.Streams.{text_of, streams, node_names, wanted}
-use Rattle.lucy_naming.specs.Numbering.{Next, Known, past, number, entries, sites, bounds, stream_place}
+use Rattle.lucy_naming.specs.Streams.{streams, result_count}
+use Rattle.lucy_naming.specs.Places.{Known, known_in, stream_place, declared_entry, left_entries}
+use Rattle.lucy_naming.specs.Numbering.{Next, past, number, entries, sites, bounds}
 use Rattle.lucy_place.specs.Standing.{buffer_places}
-
--- the place of a name that is declared
-abbrev pub declared_entry : PlaceKind → Decl → PlaceEntry
-declared_entry kind d = record { name = Some d.name; holds = d.holds; word = d.word; kind = kind }
-
--- the names on the left of a definition, defined by places in order
-abbrev pub left_entries : ℕ → List Decl → List PlaceEntry
-left_entries right [] = []
-left_entries right (d ∷ ds) = declared_entry (Defined right) d ∷ left_entries (right + 1) ds
 
 -- behind a definition
 abbrev pub past_def : Next → DefTree → Next
-past_def at d = past at (wanted d.left) (phrase_of d.right)
+past_def at d = past at (result_count d.left) (phrase_of d.right)
 
 -- behind definitions
 abbrev pub past_defs : Next → List DefTree → Next
@@ -40,12 +30,12 @@ defined k at (d ∷ ds) = left_entries (number k at (phrase_of d.right)) d.left 
 -- the places of right sides
 abbrev pub rights : Known → Next → List DefTree → List PlaceEntry
 rights k at [] = []
-rights k at (d ∷ ds) = entries k at (wanted d.left) (phrase_of d.right) ++ rights k (past_def at d) ds
+rights k at (d ∷ ds) = entries k at (result_count d.left) (phrase_of d.right) ++ rights k (past_def at d) ds
 
 -- the calls of right sides
 abbrev pub def_sites : Known → Next → List DefTree → List CallSite
 def_sites k at [] = []
-def_sites k at (d ∷ ds) = sites k at (wanted d.left) (phrase_of d.right) ++ def_sites k (past_def at d) ds
+def_sites k at (d ∷ ds) = sites k at (result_count d.left) (phrase_of d.right) ++ def_sites k (past_def at d) ds
 
 -- the bounds of the buffers of right sides, one for each, where they are written
 abbrev pub def_bounds : List DefTree → List (Option ℕ)
@@ -54,10 +44,6 @@ def_bounds ds = flat_map (λ d. bounds (phrase_of d.right)) ds
 -- the numbers behind those of the streams, where the right sides begin
 abbrev pub first_next : NodeTree → Next
 first_next n = record { place = length (streams n) + 1; buffer = 1; call = 1 }
-
--- what names stand for in a node with these nodes above it
-abbrev pub known_in : List Operator → ProgramTree → NodeTree → Known
-known_in operators above n = record { operators = operators; nodes = node_names above; streams = map text_of (streams n) }
 
 -- the places of a node: parameters, defined names, right sides
 abbrev pub node_entries : Known → NodeTree → List PlaceEntry

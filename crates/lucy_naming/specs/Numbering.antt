@@ -1,27 +1,18 @@
--- The numbers of places, and what stands at each.
-use Rattle.std.specs.Prelude.{ℕ, suc, zero, ◌+◌, Bool, true, false, List, [], ◌∷◌, ◌++◌, Option, None, length, slice_index_or}
-use Rattle.std.specs.Option.{unwrap_or}
-use Rattle.lucy_word.specs.Bits.{Bits}
-use Rattle.lucy_host.specs.Operators.{Operator, operator_number}
+-- The numbers of places, and what stands at each, as the code counts them: by a walk over an expression for each of them. What callers believe of them is
+-- in `Places.antt`, by one walk; that both agree is proved (`proofs/PartsLaws.antt`).
+use Rattle.std.specs.Prelude.{ℕ, ◌+◌, List, [], ◌∷◌, ◌++◌, Option, length}
 use Rattle.lucy_tree.specs.View.{DefTree, NodeTree}
 use Rattle.lucy_place.specs.declared.entry.PlaceEntry.{PlaceEntry}
-use Rattle.lucy_place.specs.declared.entry.PlaceKind.{PlaceKind}
-use Rattle.lucy_place.specs.declared.entry.PlaceKind.TheVariants as kind
 use Rattle.lucy_place.specs.declared.entry.CallSite.{CallSite}
 use Rattle.lucy_naming.specs.Texts.{place_in}
-use Rattle.lucy_naming.specs.Phrases.{Head, Literal, Applied, Host, Sampled, Merged, Followed, Buffered, Called, Phrase, Phrases, name, headed, none, and, phrase_of}
-use Rattle.lucy_naming.specs.Streams.{streams, wanted}
-use Rattle.lucy_place.specs.Standing.{sampling_word}
+use Rattle.lucy_naming.specs.Phrases.{Head, Called, Phrase, Phrases, name, headed, none, and, phrase_of}
+use Rattle.lucy_naming.specs.Streams.{streams, result_count}
+use Rattle.lucy_naming.specs.Places.{Known, stream_place, unnamed, results_from, own_kind, own_bounds}
 
 -- how many places a form takes for itself: a call one for each of its results, and any other form one
 abbrev pub own_rooms : ℕ → Head → ℕ
 own_rooms results (Called n at) = results
 own_rooms results h = 1
-
--- the buffer that a form is, if it is one: its bound, where one is written
-abbrev pub own_bounds : Head → List (Option ℕ)
-own_bounds (Buffered most) = most ∷ []
-own_bounds h = []
 
 -- how many calls a form is
 abbrev pub own_calls : Head → ℕ
@@ -59,7 +50,7 @@ abbrev mutual
 -- how many places the right sides of definitions take
 abbrev pub def_rooms : List DefTree → ℕ
 def_rooms [] = 0
-def_rooms (d ∷ ds) = rooms (wanted d.left) (phrase_of d.right) + def_rooms ds
+def_rooms (d ∷ ds) = rooms (result_count d.left) (phrase_of d.right) + def_rooms ds
 
 -- how many places a node has
 abbrev pub node_rooms : NodeTree → ℕ
@@ -84,16 +75,6 @@ past_all at (and f fs) = past_all (past at 1 f) fs
 abbrev pub inside : Next → ℕ → Head → Next
 inside at results h = record { place = at.place + own_rooms results h; buffer = at.buffer + length (own_bounds h); call = at.call + own_calls h }
 
--- the operators of the host, the names of the nodes above, and those of the node's streams in order of their places
-pub record Known : Type 0 where
-  pub operators : List Operator
-  pub nodes : List (List ℕ)
-  pub streams : List (List ℕ)
-
--- the place of a stream
-abbrev pub stream_place : Known → List ℕ → ℕ
-stream_place k text = place_in k.streams text + 1
-
 -- the place of an expression: of a name its stream's, and of a form the first of its own
 abbrev pub number : Known → Next → Phrase → ℕ
 number k at (name n) = stream_place k n.text
@@ -103,30 +84,6 @@ number k at (headed h span fs) = at.place
 abbrev pub numbers : Known → Next → Phrases → List ℕ
 numbers k at none = []
 numbers k at (and f fs) = number k at f ∷ numbers k (past at 1 f) fs
-
--- the number of an operator of the host, where there is one of the name (else 0, which says nothing)
-abbrev pub operator_place : Known → List ℕ → ℕ
-operator_place k text = unwrap_or (operator_number k.operators text) 0
-
--- a place without a name
-abbrev pub unnamed : PlaceKind → PlaceEntry
-unnamed k = record { name = None; holds = None; word = None; kind = k }
-
--- the results of a call, from one on
-abbrev pub results_from : ℕ → ℕ → ℕ → List PlaceEntry
-results_from call first zero = []
-results_from call first (suc n) = unnamed (kind.Result call first) ∷ results_from call (first + 1) n
-
--- what stands at the place of a form that is no call, with its number as a buffer and the places of its operands
-abbrev pub own_kind : Known → ℕ → Head → List ℕ → PlaceKind
-own_kind k n (Literal l) args = kind.Lit l
-own_kind k n (Applied op) args = kind.Op op args
-own_kind k n (Host t) args = kind.Host (operator_place k t.text) (slice_index_or args 0 0) (slice_index_or args 1 0)
-own_kind k n (Sampled flip w) args = kind.When (slice_index_or args 0 0) (sampling_word flip w)
-own_kind k n (Merged w) args = kind.Merge w (slice_index_or args 0 0) (slice_index_or args 1 0)
-own_kind k n (Followed l) args = kind.Fby l (slice_index_or args 0 0)
-own_kind k n (Buffered most) args = kind.Buffer n (slice_index_or args 0 0)
-own_kind k n (Called _ base) args = kind.Param
 
 -- the places of a form itself
 abbrev pub own_entries : Known → Next → ℕ → Head → List ℕ → List PlaceEntry

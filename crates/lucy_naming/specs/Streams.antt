@@ -5,10 +5,6 @@ use Rattle.lucy_tree.specs.declared.span.Name.{Name}
 use Rattle.lucy_tree.specs.declared.decl.Decl.{Decl}
 use Rattle.lucy_tree.specs.View.{DefTree, NodeTree, ProgramTree}
 
--- the bytes of a name
-abbrev pub text_of : Name → List ℕ
-text_of n = n.text
-
 -- the names that declarations declare
 abbrev pub declared : List Decl → List Name
 declared ds = map (λ d. d.name) ds
@@ -26,6 +22,6 @@ abbrev pub node_names : ProgramTree → List (List ℕ)
 node_names nodes = map (λ n. n.name.text) nodes
 
 -- how many results a call has: one for each name on its left, and one inside an expression, where no name is
-abbrev pub wanted : List Decl → ℕ
-wanted [] = 1
-wanted (d ∷ ds) = length (d ∷ ds)
+abbrev pub result_count : List Decl → ℕ
+result_count [] = 1
+result_count (d ∷ ds) = length (d ∷ ds)

@@ -1,13 +1,18 @@
 -- What the functions of this crate see of what they are given.
-use Rattle.std.specs.Prelude.{List, [], ◌++◌, map, not, nat_lt}
+use Rattle.std.specs.Prelude.{ℕ, List, [], ◌++◌, length, map, not, nat_lt}
 use Rattle.lucy_word.specs.declared.limit.Limit.TheVariants as limit
+use Rattle.lucy_tree.specs.declared.span.Name.{Name}
 use Rattle.lucy_tree.specs.View.{NodeTree, node_tree}
 use Rattle.lucy_naming.specs.declared.error.NameError.{NameError}
 use Rattle.lucy_naming.specs.declared.error.NameError.TheVariants.{TooMany}
 use Rattle.lucy_naming.specs.declared.names.Names.{Names}
 use Rattle.lucy_naming.specs.Faults.{Within, unless, def_faults, result_faults}
 use Rattle.lucy_place.specs.Standing.{most_places}
-use Rattle.lucy_naming.specs.Numbering.{Known, node_rooms}
+use Rattle.lucy_naming.specs.Places.{Known, as_placed}
+
+-- the bytes of a name
+abbrev pub text_of : Name → List ℕ
+text_of n = n.text
 
 -- where names stand
 abbrev pub within_of : Names → Within
@@ -19,4 +24,4 @@ known_of n = record { operators = n.ops.now; nodes = n.nodes.now; streams = n.st
 
 -- what is wrong with a node whose name and streams are good
 abbrev pub inner_faults : Within → NodeTree → List NameError
-inner_faults w n = def_faults w n.defs ++ (result_faults w.streams [] n.results ++ unless (not (nat_lt most_places (node_rooms n))) (TooMany limit.Places))
+inner_faults w n = def_faults w n.defs ++ (result_faults w.streams [] n.results ++ unless (not (nat_lt most_places (length (as_placed w.operators w.above n).places))) (TooMany limit.Places))

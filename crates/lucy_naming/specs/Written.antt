@@ -34,6 +34,7 @@ own_spans (Buffered most) fs = unnamed_spans fs
 own_spans (Called n at) fs = lacking at n.span ++ unnamed_spans fs
 own_spans h fs = []
 
+-- the spans in an expression that keep its node from being written
 abbrev mutual
   pub phrase_spans : Phrase → List Span
   phrase_spans (name n) = []
@@ -56,10 +57,6 @@ abbrev pub earlier : Option Span → Span → Option Span
 earlier None s = Some s
 earlier (Some first) s = if nat_lt s.from first.from then Some s else Some first
 
--- the first of spans in order of the text
-abbrev pub earliest : List Span → Option Span
-earliest spans = fold earlier None spans
-
--- the first span that keeps a node from being written
+-- the first span in order of the text that keeps a node from being written
 abbrev pub first_unwritten : NodeTree → Option Span
-first_unwritten n = earliest (unwritten_spans n)
+first_unwritten n = fold earlier None (unwritten_spans n)

@@ -1,9 +1,9 @@
 //! The names of a program: each is good, and then its places are numbered, or the first that isn't is told.
 //!
 //! It stands on the trees of `lucy_tree` and makes the tables of `lucy_place`. Begin with `place` in `placing.rt` and
-//! `specs/Placing.antt`. `specs/Faults.antt` says what is wrong with names, `specs/Numbering.antt` and `specs/Nodes.antt` how places
-//! are numbered, and `specs/Written.antt` when a node is written; they see an expression as a head with operands,
-//! `specs/Phrases.antt`.
+//! `specs/Placing.antt`. `specs/Places.antt` says which places a program has, `specs/Faults.antt` what is wrong with names, and
+//! `specs/Written.antt` when a node is written; they see an expression as a head with operands, `specs/Phrases.antt`.
+//! `specs/Numbering.antt` and `specs/Nodes.antt` say how the code numbers places, for its proofs alone.
 #![tactic(auto)]
 
 mod bounds;
@@ -11,6 +11,7 @@ mod draft;
 mod error;
 mod faults;
 mod hash;
+mod laws;
 mod names;
 mod nodes;
 mod numbering;
@@ -22,4 +23,5 @@ mod streams;
 mod unwritten;
 
 pub use error::NameError;
+pub use laws::nodes_are_one;
 pub use placing::place;

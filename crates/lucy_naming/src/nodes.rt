@@ -4,19 +4,20 @@ ghost use Rattle.std.specs.List.{AllByRecursion};
 ghost use Rattle.lucy_tree.specs.View.{tree_of, node_tree, def_tree};
 ghost use Rattle.lucy_tree.specs.Shaped.{IsShaped, IsShapedDef, IsShapedNode};
 ghost use Rattle.lucy_place.specs.declared.entry.PlaceKind.TheVariants as kind;
-ghost use Rattle.lucy_naming.specs.Streams.{text_of, streams, def_names, wanted};
+ghost use Rattle.lucy_naming.specs.Streams.{streams, def_names, result_count};
 ghost use Rattle.lucy_naming.specs.Phrases.{expr_phrase};
 ghost use Rattle.lucy_place.specs.Standing.{most_places, buffer_places};
-ghost use Rattle.lucy_naming.specs.Numbering.{node_rooms, number, stream_place};
-ghost use Rattle.lucy_naming.specs.Nodes.{declared_entry, left_entries, past_def, past_defs, defined, rights, def_sites, first_next, node_entries, placed_node};
+ghost use Rattle.lucy_naming.specs.Numbering.{node_rooms, number};
+ghost use Rattle.lucy_naming.specs.Places.{stream_place, declared_entry, left_entries};
+ghost use Rattle.lucy_naming.specs.Nodes.{past_def, past_defs, defined, rights, def_sites, first_next, node_entries, placed_node};
 ghost use Rattle.lucy_naming.specs.Drafts.{next_of, IsSmall, Draws};
-ghost use Rattle.lucy_naming.specs.Views.{known_of};
+ghost use Rattle.lucy_naming.specs.Views.{known_of, text_of};
 
 use crate::bounds::bounds;
 use crate::draft::Draft;
 use crate::names::Names;
 use crate::numbering::expr_places;
-use crate::room::wanted;
+use crate::room::result_count;
 use crate::steps::{copy, stream_place};
 use lucy_place::{Bounds, CallSite, Calls, Numbers, PlaceEntry, PlaceKind, PlacedNode, Places};
 use lucy_text::Text;
@@ -90,9 +91,15 @@ fn def_places(
     requires shaped { IsShaped (tree_of def.now.right) }
     requires room { IsSmall (past_def (next_of (known_of names.now) draft.old) (def_tree def.now)) }
     ensures named { OnOk result (named.new.items ≡ named.old.items ++ left_entries (number (known_of names.now) (next_of (known_of names.now) draft.old) (expr_phrase def.now.right)) def.now.left) }
-    ensures draws { OnOk result (Draws (known_of names.now) (wanted def.now.left) (expr_phrase def.now.right) draft.old draft.new) }
+    ensures draws { OnOk result (Draws (known_of names.now) (result_count def.now.left) (expr_phrase def.now.right) draft.old draft.new) }
 {
-    let right = expr_places(alloc, names, &def.right, wanted(def.left.list()), draft)?;
+    let right = expr_places(
+        alloc,
+        names,
+        &def.right,
+        result_count(def.left.list()),
+        draft,
+    )?;
     lefts(alloc, def.left.list(), right, named)
 }
 

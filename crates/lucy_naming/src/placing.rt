@@ -3,21 +3,21 @@ ghost use Rattle.std.specs.Prelude.{◌≡◌, ◌⊎◌, ◌++◌, ◌∷◌, [
 ghost use Rattle.lucy_tree.specs.View.{node_tree, def_tree, program_tree};
 ghost use Rattle.lucy_tree.specs.Shaped.{IsShapedNode, IsShapedProgram};
 ghost use Rattle.lucy_naming.specs.declared.error.NameError.TheVariants as error;
-ghost use Rattle.lucy_naming.specs.Streams.{text_of, streams, node_names};
+ghost use Rattle.lucy_naming.specs.Streams.{streams, node_names};
 ghost use Rattle.lucy_naming.specs.Faults.{verdict, def_faults, node_faults, nodes_faults, faults};
 ghost use Rattle.lucy_naming.specs.Nodes.{placed_node, placed_nodes};
 ghost use Rattle.lucy_naming.specs.Placing.{TellsFirstFault, IsFirstFault, IsPlaced};
 ghost use Rattle.lucy_place.specs.Proper.{HaveOperators};
 ghost use Rattle.lucy_naming.specs.Texts.{is_in};
 ghost use Rattle.lucy_naming.specs.Written.{first_unwritten};
-ghost use Rattle.lucy_naming.specs.Views.{within_of, inner_faults};
+ghost use Rattle.lucy_naming.specs.Views.{within_of, inner_faults, text_of};
 
 use crate::error::NameError;
 use crate::faults::expr_names;
 use crate::hash::NameHash;
 use crate::names::Names;
 use crate::nodes::node_places;
-use crate::room::{fits, wanted};
+use crate::room::{fits, result_count};
 use crate::scope::Scope;
 use crate::streams::{results, streams};
 use crate::unwritten::first_unwritten;
@@ -32,7 +32,7 @@ fn def_names(names: &Names<'_, '_>, defs: &[Def]) -> Result<(), NameError>
     ensures { result ≡ verdict (def_faults (within_of names.now) (map def_tree defs.now)) }
 {
     'each: for def in defs {
-        expr_names(names, &def.right, wanted(def.left.list()))?;
+        expr_names(names, &def.right, result_count(def.left.list()))?;
     }
     Ok(())
 }

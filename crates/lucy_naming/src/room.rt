@@ -1,7 +1,7 @@
 // Counts places, up to the number that a node may have.
 ghost use Rattle.std.specs.Prelude.{◌≡◌, ◌+◌, ◌<◌, ◌≤◌, ◌↔◌, length, map, MatchOption, IsTrue};
 ghost use Rattle.lucy_tree.specs.View.{node_tree, def_tree};
-ghost use Rattle.lucy_naming.specs.Streams.{streams, wanted};
+ghost use Rattle.lucy_naming.specs.Streams.{streams, result_count};
 ghost use Rattle.lucy_naming.specs.Phrases.{expr_phrase, expr_phrases};
 ghost use Rattle.lucy_place.specs.Standing.{most_places};
 ghost use Rattle.lucy_naming.specs.Numbering.{rooms, all_rooms, def_rooms, node_rooms};
@@ -10,8 +10,8 @@ use lucy_tree::{Decl, Def, Expr, Node};
 use lucy_word::Limit;
 
 /// How many results a call has that is defined under these names.
-pub(crate) fn wanted(left: &[Decl]) -> usize
-    ensures { result ≡ wanted left.now }
+pub(crate) fn result_count(left: &[Decl]) -> usize
+    ensures { result ≡ result_count left.now }
 {
     if left.is_empty() { 1 } else { left.len() }
 }
@@ -52,7 +52,7 @@ fn behind_defs(left: usize, defs: &[Def]) -> Option<usize>
 {
     let mut more = left;
     'each: for def in defs {
-        more = behind(more, &def.right, wanted(def.left.list()))?;
+        more = behind(more, &def.right, result_count(def.left.list()))?;
     }
     Some(more)
 }

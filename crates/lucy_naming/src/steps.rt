@@ -5,7 +5,7 @@ ghost use Rattle.lucy_tree.specs.Shaped.{HasZero, IsShaped};
 ghost use Rattle.lucy_place.specs.declared.entry.PlaceKind.TheVariants as kind;
 ghost use Rattle.lucy_naming.specs.Phrases.{expr_phrase};
 ghost use Rattle.lucy_place.specs.Standing.{most_places, sampling_word};
-ghost use Rattle.lucy_naming.specs.Numbering.{Known, unnamed, results_from, operator_place, stream_place};
+ghost use Rattle.lucy_naming.specs.Places.{Known, unnamed, results_from, operator_place, stream_place};
 ghost use Rattle.lucy_naming.specs.Drafts.{IsSingle, kind_of, free_site, site_of, buffers_of, next_of};
 ghost use Rattle.lucy_naming.specs.Views.{known_of};
 

@@ -1,7 +1,8 @@
 // Looks for faults in the names of streams and of results.
 ghost use Rattle.std.specs.Prelude.{◌≡◌, ◌∷◌, ◌++◌, [], map, IfOk, IfErr, OnOk};
 ghost use Rattle.lucy_tree.specs.View.{node_tree, def_tree};
-ghost use Rattle.lucy_naming.specs.Streams.{text_of, streams, declared, def_names};
+ghost use Rattle.lucy_naming.specs.Streams.{streams, declared, def_names};
+ghost use Rattle.lucy_naming.specs.Views.{text_of};
 ghost use Rattle.lucy_naming.specs.Faults.{repeat, repeats, result_fault, result_faults};
 ghost use Rattle.lucy_naming.specs.Placing.{TellsFirstFault};
 

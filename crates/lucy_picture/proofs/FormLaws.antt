@@ -12,10 +12,11 @@ use Rattle.lucy_tree.specs.View.{DefTree, NodeTree, ProgramTree}
 use Rattle.lucy_place.specs.declared.entry.PlaceEntry.{PlaceEntry}
 use Rattle.lucy_place.specs.declared.entry.PlaceKind.TheVariants.{Param}
 use Rattle.lucy_naming.specs.Phrases.{Applied, Host, Sampled, Merged, Followed, Buffered, Called, phrase_of, phrases_of}
-use Rattle.lucy_naming.specs.Numbering.{Known, Next, past, inside, entries, all_entries, results_from, number}
-use Rattle.lucy_naming.specs.Nodes.{declared_entry, left_entries, past_def, defined, rights, first_next, known_in, node_entries, placed_node}
+use Rattle.lucy_naming.specs.Numbering.{Next, past, inside, entries, all_entries, number}
+use Rattle.lucy_naming.specs.Places.{Known, results_from, declared_entry, left_entries, known_in}
+use Rattle.lucy_naming.specs.Nodes.{past_def, defined, rights, first_next, node_entries, placed_node}
 use Rattle.lucy_place.specs.Standing.{at_one}
-use Rattle.lucy_naming.specs.Streams.{streams, wanted, declared, def_names}
+use Rattle.lucy_naming.specs.Streams.{streams, result_count, declared, def_names}
 use Rattle.lucy_kahn.proofs.JoinedLists.{get_right}
 use Rattle.lucy_picture.specs.Forms.{times, forms, all_forms, def_forms, form_at, IsOfForm}
 
@@ -76,7 +77,7 @@ rights_matched : (k : Known) (at : Next) (ds : List DefTree) → Matched (rights
 unfolding Matched
 rights_matched k at [] = tt
 rights_matched k at (d ∷ ds) =
-    matched_append (entries k at (wanted d.left) (phrase_of d.right)) (rights k (past_def at d) ds) (forms (wanted d.left) d.right) (def_forms ds) (entries_matched k at (wanted d.left) d.right) (rights_matched k (past_def at d) ds)
+    matched_append (entries k at (result_count d.left) (phrase_of d.right)) (rights k (past_def at d) ds) (forms (result_count d.left) d.right) (def_forms ds) (entries_matched k at (result_count d.left) d.right) (rights_matched k (past_def at d) ds)
 
 -- the form of a place that is there
 matched_at : (es : List PlaceEntry) (ts : List Tree) (i : ℕ) (e : PlaceEntry) → Matched es ts → slice_get es i ≡ Some e → (t : Tree) × (slice_get ts i ≡ Some t) × IsOfForm t e.kind

@@ -5,7 +5,7 @@ use Rattle.lucy_tree.specs.View.{DefTree, NodeTree}
 use Rattle.lucy_place.specs.declared.entry.PlaceKind.{PlaceKind}
 use Rattle.lucy_place.specs.declared.entry.PlaceKind.TheVariants as kind
 use Rattle.lucy_place.specs.Standing.{sampling_word}
-use Rattle.lucy_naming.specs.Streams.{streams, wanted}
+use Rattle.lucy_naming.specs.Streams.{streams, result_count}
 
 -- a form so many times
 abbrev pub times : ℕ → Tree → List Tree
@@ -33,7 +33,7 @@ abbrev mutual
 -- those of right sides
 abbrev pub def_forms : List DefTree → List Tree
 def_forms [] = []
-def_forms (d ∷ ds) = forms (wanted d.left) d.right ++ def_forms ds
+def_forms (d ∷ ds) = forms (result_count d.left) d.right ++ def_forms ds
 
 -- the form at a place, which is none of the streams
 abbrev pub form_at : NodeTree → (place : ℕ) → Option Tree

@@ -5,9 +5,9 @@ ghost use Rattle.lucy_host.specs.Operators.{Operator};
 ghost use Rattle.lucy_tree.specs.Tree.{Tree, trees_of};
 ghost use Rattle.lucy_tree.specs.View.{NodeTree, ProgramTree, tree_of, def_tree, node_tree};
 ghost use Rattle.lucy_place.specs.declared.entry.PlaceEntry.{PlaceEntry as Entry};
-ghost use Rattle.lucy_naming.specs.Nodes.{placed_node};
+ghost use Rattle.lucy_naming.specs.Places.{as_placed};
 ghost use Rattle.lucy_place.specs.Standing.{at_one};
-ghost use Rattle.lucy_naming.specs.Streams.{streams, wanted};
+ghost use Rattle.lucy_naming.specs.Streams.{streams, result_count};
 ghost use Rattle.lucy_picture.specs.Forms.{times, forms, all_forms, def_forms, form_at, IsOfForm};
 ghost use Rattle.lucy_picture.specs.Seeking.{seek, seen};
 
@@ -81,14 +81,14 @@ fn inside_all<'a>(at: Search<'a>, list: &'a [Expr]) -> Search<'a>
 
 // How many results a call has that is defined under these names.
 fn results_of(left: &[Decl]) -> usize
-    ensures { result ≡ wanted left.now }
+    ensures { result ≡ result_count left.now }
 {
     if left.is_empty() { 1 } else { left.len() }
 }
 
 // The search past a right side.
 fn past_def<'a>(at: Search<'a>, def: &'a Def) -> Search<'a>
-    ensures { seen result ≡ fold seek (seen at.entry) (forms (wanted (def_tree def.now).left) (def_tree def.now).right) }
+    ensures { seen result ≡ fold seek (seen at.entry) (forms (result_count (def_tree def.now).left) (def_tree def.now).right) }
 {
     inside(at, &def.right, results_of(def.left.list()))
 }
@@ -126,6 +126,6 @@ pub fn form_of(node: &Node, place: u32) -> Option<&Expr>
 
 /// Behind the streams of a node, a form stands at each place: what is placed there is of its kind and says the same.
 pub fn forms_stand_at_their_places()
-    ensures { (ops : List Operator) (above : ProgramTree) (n : NodeTree) (place : ℕ) (entry : Entry) → at_one (placed_node ops above n).places place ≡ Some entry → length (streams n) < place →
+    ensures { (ops : List Operator) (above : ProgramTree) (n : NodeTree) (place : ℕ) (entry : Entry) → at_one (as_placed ops above n).places place ≡ Some entry → length (streams n) < place →
         (t : Tree) × (form_at n place ≡ Some t) × IsOfForm t entry.kind }
 {}

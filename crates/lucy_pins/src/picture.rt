@@ -20,7 +20,7 @@ ghost use Rattle.lucy_picture.specs.Spots as spots;
 ghost use Rattle.lucy_picture.specs.Lines as lines;
 ghost use Rattle.lucy_tree.specs.Tree.{Tree};
 ghost use Rattle.lucy_place.specs.declared.entry.PlaceEntry.{PlaceEntry as Entry};
-ghost use Rattle.lucy_naming.specs.Nodes.{placed_node};
+ghost use Rattle.lucy_naming.specs.Places.{as_placed};
 ghost use Rattle.lucy_place.specs.Standing.{at_one};
 ghost use Rattle.lucy_naming.specs.Streams.{streams};
 
@@ -180,7 +180,7 @@ pub fn put_time(
 
 /// Pins `lucy_picture::forms_stand_at_their_places`.
 pub fn forms_stand_at_their_places()
-    ensures { (ops : List Operator) (above : ProgramTree) (n : NodeTree) (place : ℕ) (entry : Entry) → at_one (placed_node ops above n).places place ≡ Some entry → length (streams n) < place →
+    ensures { (ops : List Operator) (above : ProgramTree) (n : NodeTree) (place : ℕ) (entry : Entry) → at_one (as_placed ops above n).places place ≡ Some entry → length (streams n) < place →
         (t : Tree) × (form_at n place ≡ Some t) × IsOfForm t entry.kind }
 {
     lucy_picture::forms_stand_at_their_places();

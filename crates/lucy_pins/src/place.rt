@@ -4,6 +4,7 @@ ghost use Rattle.lucy_tree.specs.View.{program_tree};
 ghost use Rattle.lucy_tree.specs.Shaped.{IsShapedProgram};
 ghost use Rattle.lucy_naming.specs.declared.error.NameError.TheVariants as error;
 ghost use Rattle.lucy_naming.specs.Faults.{faults};
+ghost use Rattle.lucy_naming.specs.Laws.{NodesAreOne, ProgramsHaveNodes};
 ghost use Rattle.lucy_naming.specs.Placing.{TellsFirstFault, IsFirstFault, IsPlaced};
 ghost use Rattle.lucy_place.specs.Proper.{HaveOperators, AreProper, IsProperNode};
 ghost use Rattle.lucy_word.specs.Limits.{limit_number};
@@ -28,6 +29,14 @@ pub fn place(alloc: Global, program: &Program, ops: &Ops) -> Result<Placed, Name
     ensures rejected { (e : NameError) → IsFirstFault (faults ops.now (program_tree program.now)) e → (result ≡ Err error.OutOfMemory) ⊎ (result ≡ Err e) }
 {
     lucy_naming::place(alloc, program, ops)
+}
+
+/// Pins `lucy_naming::nodes_are_one`.
+pub fn nodes_are_one()
+    ensures some { ProgramsHaveNodes }
+    ensures one { NodesAreOne }
+{
+    lucy_naming::nodes_are_one();
 }
 
 /// Pins `lucy_place::Placed::nodes`.

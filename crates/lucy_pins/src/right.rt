@@ -2,17 +2,9 @@
 ghost use Rattle.lucy_right.specs.Accepted.{AcceptedAreWritten, WrittenStandForOne};
 ghost use Rattle.lucy_right.specs.Chosen.{ChosenAreOne};
 ghost use Rattle.lucy_right.specs.Earliest.{FoundAreEarliest};
-ghost use Rattle.lucy_right.specs.Laws.{FaultlessAreWellNamed, NodesArePlaced, PlacedAreNodes, WellNamedHaveNoFault};
+ghost use Rattle.lucy_right.specs.Laws.{FaultlessAreWellNamed, WellNamedHaveNoFault};
 ghost use Rattle.lucy_right.specs.Owed.{AcceptedStand, CutsAreRuns, OwedAreRuns};
 ghost use Rattle.lucy_right.specs.Refused.{WrittenPassLimits};
-
-/// Pins `lucy_right::nodes_are_placed`.
-pub fn nodes_are_placed()
-    ensures placed { PlacedAreNodes }
-    ensures only { NodesArePlaced }
-{
-    lucy_right::nodes_are_placed();
-}
 
 /// Pins `lucy_right::names_are_good`.
 pub fn names_are_good()

@@ -5,6 +5,7 @@ use Rattle.lucy_grammar.proofs.ShapedLaws.{shaped}
 use Rattle.lucy_place.specs.declared.placed.PlacedNode.{PlacedNode}
 use Rattle.lucy_place.specs.PlacedProgram.{PlacedProgram}
 use Rattle.lucy_place.specs.Proper.{AreProper, HaveOperators}
+use Rattle.lucy_naming.proofs.NodesLaws.{are_placed}
 use Rattle.lucy_naming.proofs.OperatorLaws.{operators_below}
 use Rattle.lucy_naming.proofs.ProperPrograms.{nodes_proper}
 use Rattle.lucy_clock.specs.declared.node_clock.NodeClock.{NodeClock}
@@ -18,11 +19,11 @@ use Rattle.lucy_program.specs.Report.{IsReportable}
 module _ (ops : List Operator) (o : Options) (text : List ℕ) where
   -- the nodes of a text that has places are proper
   pub text_proper : (v : PlacedProgram) → IsPlacedText ops text v → AreProper v.nodes
-  text_proper v x = subst AreProper (sym x.is_placed.nodes) (nodes_proper ops x.tree (shaped text x.tree x.read) x.is_placed.good)
+  text_proper v x = subst AreProper (sym (are_placed ops x.tree v.nodes x.is_placed.nodes)) (nodes_proper ops x.tree (shaped text x.tree x.read) x.is_placed.good)
 
   -- and name operators of the host alone
   pub text_operators : (v : PlacedProgram) → IsPlacedText ops text v → HaveOperators (length ops) v.nodes
-  text_operators v x = subst (HaveOperators (length ops)) (sym x.is_placed.nodes) (operators_below ops x.tree x.is_placed.good)
+  text_operators v x = subst (HaveOperators (length ops)) (sym (are_placed ops x.tree v.nodes x.is_placed.nodes)) (operators_below ops x.tree x.is_placed.good)
 
 -- what is accepted can be reported
 pub reportable : (ops : List Operator) (o : Options) (text : List ℕ) (a : Accepted) → IsAccepted ops o text a → IsReportable a.placed.nodes a.typed a.clocks.items

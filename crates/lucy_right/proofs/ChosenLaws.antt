@@ -31,7 +31,7 @@ use Rattle.lucy_flat.specs.Clocked.{IsClock, AreClocked}
 use Rattle.lucy_program.specs.Inferring.{node_needs}
 use Rattle.lucy_right.specs.Right.{Meaning}
 use Rattle.lucy_right.specs.Earliest.{AreEarliest}
-use Rattle.lucy_right.specs.Laws.{NodesArePlaced}
+use Rattle.lucy_naming.specs.Laws.{NodesAreOne}
 use Rattle.lucy_right.specs.Chosen.{ChosenAreOne}
 use Rattle.lucy_right.proofs.ClockLaws.{signatures_same}
 
@@ -81,7 +81,7 @@ meaning_same m other nodes types clocks =
 pub record Laws : Type 0 where
   pub shape : OneShapeLaw
   pub assignment : OneAssignmentLaw
-  pub placed : NodesArePlaced
+  pub nodes : NodesAreOne
 
 -- buffers between the same words have the same sizes
 sizes_same : (nodes : List PlacedNode) (n : PlacedNode) (c d : NodeClock) → IsProperNode nodes n → c.words ≡ d.words → AreSizes n c → AreSizes n d → c.sizes ≡ d.sizes
@@ -149,7 +149,7 @@ module _ (laws : Laws) (scale lead : ℕ) where
 
 pub chosen_one : Laws → ChosenAreOne
 chosen_one laws ops scale lead program m other proper is also chosen too =
-    let nodes : other.nodes ≡ m.nodes = laws.placed ops program other.nodes also.placed ∙ sym (laws.placed ops program m.nodes is.placed) in
+    let nodes : other.nodes ≡ m.nodes = laws.nodes ops program other.nodes m.nodes also.placed is.placed in
     let types : m.types ≡ other.types = typed_unique m.nodes m.types other.types is.typed (subst (λ ns. IsTyped ns other.types) nodes also.typed) in
     let clocks : m.clocks ≡ other.clocks =
     clocks_one laws scale lead m.nodes m.clocks other.clocks proper is.clocked (subst (λ ns. AreClocked ns other.clocks) nodes also.clocked) is.shortest also.shortest chosen

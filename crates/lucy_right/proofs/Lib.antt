@@ -1,5 +1,3 @@
-mod PartsLaws
-mod NodesLaws
 mod NameLaws
 mod LineLaws
 mod MeaningLaws

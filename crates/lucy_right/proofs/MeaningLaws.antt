@@ -1,5 +1,5 @@
 -- What a text is accepted as its program stands for.
-use Rattle.std.proofs.Common.{◌≡◌, ◌<◌, ℕ, zero, suc, List, [], ◌∷◌, length, Some, slice_get, take, refl, ap, sym, ◌∙◌, inl, inr, arith}
+use Rattle.std.proofs.Common.{◌≡◌, ◌<◌, ℕ, zero, suc, List, [], ◌∷◌, length, Some, slice_get, take, refl, sym, ◌∙◌, inl, inr, arith}
 use Rattle.std.specs.Prelude.{true, false}
 use Rattle.std.specs.List.{AllByRecursion}
 use Rattle.std.proofs.lemmas.Option.{slice_get_within}
@@ -17,7 +17,6 @@ use Rattle.lucy_program.specs.Clocked.{IsClocked, AreClocksOf}
 use Rattle.lucy_program.specs.Laws.{AcceptedAreProper, AcceptedAreClocked}
 use Rattle.lucy_right.specs.Owed.{AcceptedStand}
 use Rattle.lucy_right.specs.Accepted.{AcceptedAreWritten}
-use Rattle.lucy_right.proofs.NodesLaws.{placed_are}
 use Rattle.lucy_right.proofs.NameLaws.{faultless_well}
 
 -- words in memory are in shortest form
@@ -74,7 +73,7 @@ stand clocked proper causal ops o text a is =
       placed.read,
       record {
         named = faultless_well ops placed.tree placed.is_placed.good;
-        placed = λ i. ap (λ nodes. slice_get nodes i) placed.is_placed.nodes ∙ placed_are ops placed.tree i;
+        placed = placed.is_placed.nodes;
         typed = is.clocked.program.typed;
         clocked = clocked ops o text a is;
         shortest = clocks_shortest o a.placed.nodes a.clocks.items is.clocked.clocks;

@@ -13,15 +13,16 @@ use Rattle.lucy_tree.specs.View.{DefTree, NodeTree, ProgramTree}
 use Rattle.lucy_naming.specs.declared.error.NameError.{NameError}
 use Rattle.lucy_naming.specs.declared.error.NameError.TheVariants.{Unknown, Twice, NoResult, Arity, TooMany}
 use Rattle.lucy_naming.specs.Texts.{is_text, is_in, place_in}
-use Rattle.lucy_naming.specs.Streams.{text_of, streams, node_names, wanted}
+use Rattle.lucy_naming.specs.Streams.{streams, node_names, result_count}
+use Rattle.lucy_naming.specs.Views.{text_of}
 use Rattle.lucy_naming.specs.Phrases.{Head, Literal, Applied, Host, Sampled, Merged, Followed, Buffered, Called, Phrase, Phrases, name, headed, none, and, count, phrase_of}
 use Rattle.lucy_naming.specs.Faults.{Within, unless, repeat, repeats, callee_faults, head_faults, phrase_faults, phrases_faults, def_faults, result_fault, result_faults, node_faults, nodes_faults, verdict}
 use Rattle.lucy_place.specs.Standing.{most_places}
-use Rattle.lucy_naming.specs.Numbering.{Known, node_rooms}
+use Rattle.lucy_naming.specs.Places.{Known, as_placed}
+use Rattle.lucy_naming.proofs.ProperPrograms.{behind}
 use Rattle.lucy_naming.proofs.VerdictLaws.{none_front, none_back, all_faultless}
-use Rattle.lucy_right.specs.Places.{HasOwner, NamesWell, AllNameWell, IsWellNamed}
+use Rattle.lucy_right.specs.Names.{HasOwner, NamesWell, AllNameWell, IsWellNamed}
 use Rattle.lucy_right.specs.Laws.{FaultlessAreWellNamed, WellNamedHaveNoFault}
-use Rattle.lucy_right.proofs.NodesLaws.{above_next}
 
 -- a text is among texts
 text_is : (t u : List ℕ) → is_text t u ≡ true → t ≡ u
@@ -190,20 +191,20 @@ module _ (ops : List Operator) (all above : ProgramTree) (texts : List (List ℕ
     well_all (and f fs) h = all_faultless (phrase_faults w 1 f) (phrases_faults w fs) (well_phrase 1 f h.0) (well_all fs h.1)
 
   abbrev AreWell : List DefTree → Type 0
-  AreWell ds = AllByRecursion (λ (d : DefTree). NamesWell k above (wanted d.left) (phrase_of d.right)) ds
+  AreWell ds = AllByRecursion (λ (d : DefTree). NamesWell k above (result_count d.left) (phrase_of d.right)) ds
 
   pub defs_well : (ds : List DefTree) → def_faults w ds ≡ [] → AreWell ds
   defs_well [] h = tt
   defs_well (d ∷ ds) h =
       let f : Phrase = phrase_of d.right in
-      let r : ℕ = wanted d.left in
+      let r : ℕ = result_count d.left in
       (phrase_well r f (none_front (phrase_faults w r f) (def_faults w ds) h), defs_well ds (none_back (phrase_faults w r f) (def_faults w ds) h))
 
   pub well_defs : (ds : List DefTree) → AreWell ds → def_faults w ds ≡ []
   well_defs [] h = refl
   well_defs (d ∷ ds) h =
       let f : Phrase = phrase_of d.right in
-      let r : ℕ = wanted d.left in
+      let r : ℕ = result_count d.left in
       all_faultless (phrase_faults w r f) (def_faults w ds) (well_phrase r f h.0) (well_defs ds h.1)
 
 -- a node
@@ -224,7 +225,7 @@ module _ (ops : List Operator) (all above : ProgramTree) (n : NodeTree) where
   in_results = result_faults texts [] n.results
 
   abbrev in_rooms : List NameError
-  in_rooms = unless (not (nat_lt most_places (node_rooms n))) (TooMany limit.Places)
+  in_rooms = unless (not (nat_lt most_places (length (as_placed ops above n).places))) (TooMany limit.Places)
 
   pub node_well : node_faults ops all above n ≡ [] → IsWellNamed ops above n
   node_well h =
@@ -261,7 +262,7 @@ module _ (ops : List Operator) (all : ProgramTree) where
       let same : m ≡ n = cc in
       subst (IsWellNamed ops (above ++ [])) same (subst (λ a. IsWellNamed ops a m) (sym (append-nil above)) own)
   all_nodes_well above (m ∷ ns) h (suc i) n there_ =
-      subst (λ a. IsWellNamed ops a n) (above_next above m ns i)
+      subst (λ a. IsWellNamed ops a n) (behind ops above m ns i)
       (all_nodes_well (above ++ m ∷ []) ns (none_back (node_faults ops all above m) (nodes_faults ops all (above ++ m ∷ []) ns) h) i n there_)
 
   -- the first fault is of too many places, where there is one
@@ -277,9 +278,9 @@ module _ (ops : List Operator) (all : ProgramTree) where
   only_places above (m ∷ ns) well =
       let own : IsWellNamed ops above m = subst (λ a. IsWellNamed ops a m) (append-nil above) (well zero m refl) in
       let more : TellsPlaces (nodes_faults ops all (above ++ m ∷ []) ns) =
-      only_places (above ++ m ∷ []) ns (λ i n h. subst (λ a. IsWellNamed ops a n) (sym (above_next above m ns i)) (well (suc i) n h)) in
+      only_places (above ++ m ∷ []) ns (λ i n h. subst (λ a. IsWellNamed ops a n) (sym (behind ops above m ns i)) (well (suc i) n h)) in
       subst TellsPlaces (ap (λ fs. fs ++ nodes_faults ops all (above ++ m ∷ []) ns) (sym (well_node ops all above m own)))
-      (places_first (not (nat_lt most_places (node_rooms m))) (nodes_faults ops all (above ++ m ∷ []) ns) more)
+      (places_first (not (nat_lt most_places (length (as_placed ops above m).places))) (nodes_faults ops all (above ++ m ∷ []) ns) more)
 
 pub faultless_well : FaultlessAreWellNamed
 faultless_well ops program h i n there_ = all_nodes_well ops program [] program h i n there_

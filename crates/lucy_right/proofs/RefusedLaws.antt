@@ -1,5 +1,5 @@
 -- A written program that stands for something is refused for limits alone.
-use Rattle.std.proofs.Common.{ℕ, ◌≤◌, ◌≡◌, List, [], ◌∷◌, map, refl, ap, sym, ◌∙◌, subst, inl, inr, arith}
+use Rattle.std.proofs.Common.{ℕ, ◌≤◌, ◌≡◌, List, [], ◌∷◌, map, refl, subst, inl, inr, arith}
 use Rattle.std.specs.Prelude.{◌⊎◌}
 use Rattle.std.specs.List.{AllByRecursion}
 use Rattle.std.proofs.lemmas.Option.{slice_get_within}
@@ -12,7 +12,8 @@ use Rattle.lucy_grammar.specs.Laws.{TextsHaveOneAnswer}
 use Rattle.lucy_grammar.specs.Texts.{HasTree}
 use Rattle.lucy_place.specs.declared.placed.PlacedNode.{PlacedNode}
 use Rattle.lucy_naming.specs.Faults.{faults}
-use Rattle.lucy_naming.specs.Nodes.{placed_nodes}
+use Rattle.lucy_naming.specs.Places.{AreNodesOf}
+use Rattle.lucy_naming.proofs.NodesLaws.{nodes_one}
 use Rattle.lucy_place.specs.PlacedProgram.{PlacedProgram}
 use Rattle.lucy_naming.specs.Placing.{IsFirstFault}
 use Rattle.lucy_place.specs.Proper.{AreProper}
@@ -42,7 +43,6 @@ use Rattle.lucy_program.proofs.AcceptedLaws.{text_proper}
 use Rattle.lucy_front.proofs.OneAnswer.{syntax_refused, names_refused}
 use Rattle.lucy_right.specs.Right.{Meaning, StandsFor}
 use Rattle.lucy_right.specs.Refused.{WrittenPassLimits}
-use Rattle.lucy_right.proofs.NodesLaws.{are_placed}
 use Rattle.lucy_right.proofs.NameLaws.{well_faultless}
 use Rattle.lucy_right.proofs.ClockLaws.{fails_beyond}
 
@@ -86,7 +86,7 @@ net_limit nets nodes clocks (Node placed node f) proper causal h = absurd h
 pub text_nodes : TextsHaveOneAnswer → (ops : List Operator) (text : List ℕ) (program : ProgramTree) (m : Meaning) → HasTree text program → StandsFor ops program m →
     (placed : PlacedProgram) → IsPlacedText ops text placed → placed.nodes ≡ m.nodes
 text_nodes texts ops text program m read stands placed x =
-    x.is_placed.nodes ∙ ap (placed_nodes ops) (texts.one_tree text x.tree program x.read read) ∙ sym (are_placed ops program m.nodes stands.placed)
+    nodes_one ops program placed.nodes m.nodes (subst (λ p. AreNodesOf ops p placed.nodes) (texts.one_tree text x.tree program x.read read) x.is_placed.nodes) stands.placed
 
 -- the laws below that are called
 pub record Laws : Type 0 where

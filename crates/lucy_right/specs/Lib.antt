@@ -1,5 +1,5 @@
--- What callers believe, in the order to read it: the places of a node read off its tree, what `run` prints, the clocks that it finds, and laws of all these.
-pub mod Places
+-- What callers believe, in the order to read it: that names are good, what `run` prints, the clocks that it finds, and laws of all these.
+pub mod Names
 pub mod Right
 pub mod Earliest
 pub mod Laws

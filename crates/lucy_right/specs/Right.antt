@@ -20,6 +20,7 @@ use Rattle.lucy_lines.specs.Outputs.{output_text}
 use Rattle.lucy_tree.specs.View.{ProgramTree}
 use Rattle.lucy_place.specs.declared.placed.PlacedNode.{PlacedNode}
 use Rattle.lucy_place.specs.WrittenNodes.{IsWritten}
+use Rattle.lucy_naming.specs.Places.{AreNodesOf}
 use Rattle.lucy_types.specs.declared.ty.Ty.{Ty}
 use Rattle.lucy_types.specs.Programs.{IsTyped}
 use Rattle.lucy_clock.specs.declared.node_clock.NodeClock.{NodeClock}
@@ -31,7 +32,7 @@ use Rattle.lucy_flat.specs.Clocked.{AreClocked}
 use Rattle.lucy_results.specs.Streams.{param_words}
 use Rattle.lucy_program.specs.Scheduled.{main_inputs, main_outputs}
 use Rattle.lucy_program.specs.Report.{report}
-use Rattle.lucy_right.specs.Places.{AreWellNamed, AreNodesOf}
+use Rattle.lucy_right.specs.Names.{AreWellNamed}
 
 -- what a program stands for: its nodes, of which the last is main, the types of their places, the words of their clocks and the sizes of their buffers
 pub record Meaning : Type 0 where

@@ -1,8 +1,8 @@
-// That places and names read off the tree of a program are those that lucy_naming tells, that what a run owes is what `run` prints, and that a written
+// That names read off the tree of a program are good where lucy_naming tells no fault, that what a run owes is what `run` prints, and that a written
 // program that stands for something is refused for limits alone, and stands for that alone where it is accepted.
 ghost use Rattle.lucy_right.specs.Chosen.{ChosenAreOne};
 ghost use Rattle.lucy_right.specs.Earliest.{FoundAreEarliest};
-ghost use Rattle.lucy_right.specs.Laws.{FaultlessAreWellNamed, NodesArePlaced, PlacedAreNodes, WellNamedHaveNoFault};
+ghost use Rattle.lucy_right.specs.Laws.{FaultlessAreWellNamed, WellNamedHaveNoFault};
 ghost use Rattle.lucy_right.specs.Owed.{AcceptedStand, CutsAreRuns, OwedAreRuns};
 ghost use Rattle.lucy_right.specs.Refused.{WrittenPassLimits};
 ghost use Rattle.lucy_right.specs.Accepted.{AcceptedAreWritten, WrittenStandForOne};
@@ -11,15 +11,10 @@ use lucy_clock::{needs_are_the_rules, written_nodes_have_one};
 use lucy_flat::flat_nets_are_causal_as_programs;
 use lucy_grammar::texts_have_one_answer;
 use lucy_kahn::programs_grow;
+use lucy_naming::nodes_are_one;
 use lucy_program::accepted_programs_are_clocked;
 use lucy_rates::one_shape;
 use lucy_results::streams_are_whole;
-
-/// The nodes of a program, read off its tree, are those that `place` gives.
-pub fn nodes_are_placed()
-    ensures placed { PlacedAreNodes }
-    ensures only { NodesArePlaced }
-{}
 
 /// A program is well named exactly where `place` finds no fault of a name in it, but for the limit on places.
 pub fn names_are_good()
@@ -82,5 +77,5 @@ pub fn chosen_clocks_are_one()
 {
     one_shape();
     written_nodes_have_one();
-    nodes_are_placed();
+    nodes_are_one();
 }

@@ -26,11 +26,13 @@ use Rattle.lucy_place.specs.declared.entry.PlaceKind.TheVariants as place_kind
 use Rattle.lucy_place.specs.declared.placed.PlacedNode.{PlacedNode}
 use Rattle.lucy_naming.specs.Phrases.{Head, Literal, Applied, Host, Sampled, Merged, Followed, Buffered, Called, Phrase, Phrases, name, headed, none, and, phrase_of}
 use Rattle.lucy_naming.specs.Faults.{faults}
-use Rattle.lucy_naming.specs.Streams.{wanted}
-use Rattle.lucy_naming.specs.Numbering.{Next, Known, past, inside, number, numbers, entries, all_entries, own_entries, results_from}
-use Rattle.lucy_naming.specs.Nodes.{past_def, declared_entry, left_entries, defined, rights, first_next, known_in, node_entries, placed_node}
+use Rattle.lucy_naming.specs.Streams.{result_count}
+use Rattle.lucy_naming.specs.Numbering.{Next, past, inside, number, numbers, entries, all_entries, own_entries}
+use Rattle.lucy_naming.specs.Places.{Known, results_from, declared_entry, left_entries, known_in}
+use Rattle.lucy_naming.specs.Nodes.{past_def, defined, rights, first_next, node_entries, placed_node}
 use Rattle.lucy_place.specs.Standing.{at_one, IsNamed, AreNamed}
 use Rattle.lucy_place.specs.Proper.{AreProper}
+use Rattle.lucy_naming.proofs.NodesLaws.{are_placed}
 use Rattle.lucy_naming.proofs.ProperPrograms.{tree_at}
 use Rattle.lucy_types.specs.declared.ty.Ty.{Ty}
 use Rattle.lucy_kahn.specs.Spots.{main_of}
@@ -116,7 +118,7 @@ mutual
 rights_plain : (k : Known) (at : Next) (ds : List DefTree) → ArePlainEntries (rights k at ds)
 rights_plain k at [] = tt
 rights_plain k at (d ∷ ds) =
-    plain_join (entries k at (wanted d.left) (phrase_of d.right)) (rights k (past_def at d) ds) (phrase_plain k at (wanted d.left) (phrase_of d.right)) (rights_plain k (past_def at d) ds)
+    plain_join (entries k at (result_count d.left) (phrase_of d.right)) (rights k (past_def at d) ds) (phrase_plain k at (result_count d.left) (phrase_of d.right)) (rights_plain k (past_def at d) ds)
 
 entries_plain : (k : Known) (t : NodeTree) → IsPrintableNode IsWritten t → ArePlainEntries (node_entries k t)
 entries_plain k t is =
@@ -159,7 +161,7 @@ pub record IsTreeOf (ops : List Operator) (text : List ℕ) (main : PlacedNode) 
 pub main_tree : (ops : List Operator) (o : Options) (text : List ℕ) (a : Accepted) (main : PlacedNode) → IsAccepted ops o text a → main_of a.placed.nodes ≡ Some main → IsTreeOf ops text main
 main_tree ops o text a main is e =
     let placed = is.clocked.program.program in
-    let found = tree_at ops [] placed.tree (length a.placed.nodes - 1) main (ap (λ ns. slice_get ns (length a.placed.nodes - 1)) (sym placed.is_placed.nodes) ∙ e) in
+    let found = tree_at ops [] placed.tree (length a.placed.nodes - 1) main (ap (λ ns. slice_get ns (length a.placed.nodes - 1)) (sym (are_placed ops placed.tree a.placed.nodes placed.is_placed.nodes)) ∙ e) in
     record { program = placed.tree; read = placed.read; good = placed.is_placed.good; index = length a.placed.nodes - 1; tree = found.0; found = found.1; is = found.2 }
 
 some_of : {A : Type 0} (P : A → Type 0) (xs : List A) (i : ℕ) (x : A) → AllOfSome P xs → slice_get xs i ≡ Some x → P x

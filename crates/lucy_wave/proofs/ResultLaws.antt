@@ -1,25 +1,21 @@
 -- The results of an accepted program's main stand once each.
 use Rattle.std.proofs.Common.{ℕ, suc, ◌+◌, ◌-◌, ◌≤◌, ◌≡◌, ◌||◌, Bool, true, false, not, cond, List, [], ◌∷◌, ◌++◌, Some, length, map, take, ap, sym, refl, ◌∙◌, subst, arith, length-append}
-use Rattle.std.specs.Prelude.{nat_lt, slice_get, if◌then◌else◌}
-use Rattle.lucy_word.specs.declared.limit.Limit.TheVariants as limit
+use Rattle.std.specs.Prelude.{slice_get, if◌then◌else◌}
 use Rattle.std.specs.List.{list_any, position_or_len}
 use Rattle.std.proofs.lemmas.Cmp.{nat_list_eq_equiv}
 use Rattle.std.proofs.lemmas.Option.{same_Some}
 use Rattle.lucy_word.specs.Bits.{Bits}
-use Rattle.lucy_host.specs.Operators.{Operator}
 use Rattle.lucy_tree.specs.declared.span.Name.{Name}
-use Rattle.lucy_tree.specs.View.{NodeTree, ProgramTree}
 use Rattle.lucy_types.specs.declared.ty.Ty.{Ty}
 use Rattle.lucy_types.specs.Tables.{table_at}
 use Rattle.lucy_naming.specs.declared.error.NameError.{NameError}
 use Rattle.lucy_place.specs.declared.placed.PlacedNode.{PlacedNode}
 use Rattle.lucy_naming.specs.Texts.{is_text, is_in, place_in}
-use Rattle.lucy_naming.specs.Streams.{text_of, node_names, streams as streams_in}
-use Rattle.lucy_naming.specs.Faults.{unless, repeats, def_faults, result_fault, result_faults, node_faults}
-use Rattle.lucy_place.specs.Standing.{most_places}
-use Rattle.lucy_naming.specs.declared.error.NameError.TheVariants.{Twice, TooMany}
-use Rattle.lucy_naming.specs.Numbering.{node_rooms}
+use Rattle.lucy_naming.specs.Streams.{streams as streams_in}
+use Rattle.lucy_naming.specs.Views.{text_of}
+use Rattle.lucy_naming.specs.Faults.{unless, result_fault, result_faults}
 use Rattle.lucy_naming.proofs.VerdictLaws.{none_front, none_back}
+use Rattle.lucy_naming.proofs.NodeFaults.{results_faultless}
 use Rattle.lucy_naming.proofs.ProperPrograms.{node_good}
 use Rattle.lucy_need.specs.Meeting.{Assignment}
 use Rattle.lucy_kahn.specs.Turns.{params_in}
@@ -73,17 +69,6 @@ behind_one (x ∷ before) t own e =
     let rest = behind_one before t own both.1 in
     (ap (λ b. b || is_in before t) both.0 ∙ rest.0, rest.1)
 
--- a node without faults has none of its results
-results_good : (ops : List Operator) (all above : ProgramTree) (t : NodeTree) → node_faults ops all above t ≡ [] → result_faults (map text_of (streams_in t)) [] t.results ≡ []
-results_good ops all above t none =
-    let texts : List (List ℕ) = map text_of (streams_in t) in
-    let first : List NameError = unless (not (is_in (node_names above) t.name.text)) (Twice t.name.span) in
-    let second : List NameError = repeats [] (streams_in t) in
-    let third : List NameError = def_faults (record { operators = ops; all = all; above = above; streams = texts }) t.defs in
-    let fourth : List NameError = result_faults texts [] t.results in
-    let fifth : List NameError = unless (not (nat_lt most_places (node_rooms t))) (TooMany limit.Places) in
-    none_front fourth fifth (none_back third (fourth ++ fifth) (none_back second (third ++ (fourth ++ fifth)) (none_back first (second ++ (third ++ (fourth ++ fifth))) none)))
-
 module _ (texts : List (List ℕ)) where
   abbrev place : Name → ℕ
   place r = place_in texts r.text + 1
@@ -123,7 +108,7 @@ names_distinct plain proper ops o text a lists streams inside horizon dump is wa
     let outputs_are : a.outputs.items ≡ map (main_output main types words) main.results = is.outputs ∙ ap (λ m. of_one (λ (n : PlacedNode). map (main_output n types words) n.results) m) wave.main_is in
     let node_none = node_good ops of.program [] of.program of.index of.tree of.good of.found in
     let apart : AreUnlike main.results = subst (λ (n : PlacedNode). AreUnlike n.results) (sym of.is)
-    (unlike (map text_of (streams_in of.tree)) [] of.tree.results (results_good ops of.program ([] ++ take of.index of.program) of.tree node_none)) in
+    (unlike (map text_of (streams_in of.tree)) [] of.tree.results (results_faultless ops of.program ([] ++ take of.index of.program) of.tree node_none)) in
     let own = proper ops o text a is last main wave.main_is in
     let count : length lists ≡ main.params = few ∙ ap params_in wave.main_is in
     let w : Assignment = main_word a.placed.nodes a.clocks.items in

@@ -8,6 +8,6 @@ returns c =
       owed = c.owed_outputs_are_runs.ensures.owed;
       pass = c.written_programs_pass.ensures;
       texts = c.texts_have_one_answer.ensures;
-      placed = c.nodes_are_placed.ensures.only;
+      nodes = c.nodes_are_one.ensures.one;
     } in
     runs_right laws

@@ -2,7 +2,7 @@ use Rattle.std.proofs.Common.{◌≡◌, ◌+◌, ◌∷◌, ◌++◌, List, len
 use Rattle.std.proofs.lemmas.List.{append-nil, drop_all}
 use Rattle.lucy_tree.specs.View.{DefTree, def_tree}
 use Rattle.lucy_naming.specs.Streams.{def_names}
-use Rattle.lucy_naming.specs.Numbering.{Known}
+use Rattle.lucy_naming.specs.Places.{Known}
 use Rattle.lucy_naming.specs.Nodes.{past_def, past_defs, defined, rights, def_sites}
 use Rattle.lucy_naming.specs.Drafts.{next_of, IsSmall}
 use Rattle.lucy_naming.specs.Views.{known_of}

@@ -1,7 +1,7 @@
 use Rattle.std.proofs.Common.{◌+◌, ◌≤◌, length, ap, sym, subst, arith}
 use Rattle.lucy_naming.specs.Phrases.{expr_phrase}
 use Rattle.lucy_place.specs.Standing.{most_places}
-use Rattle.lucy_naming.specs.Numbering.{Known}
+use Rattle.lucy_naming.specs.Places.{Known}
 use Rattle.lucy_naming.specs.Drafts.{next_of}
 use Rattle.lucy_naming.specs.Views.{known_of}
 use Rattle.lucy_naming.proofs.RoomLaws.{number_few}

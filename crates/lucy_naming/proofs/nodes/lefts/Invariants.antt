@@ -1,5 +1,5 @@
 use Rattle.std.proofs.Common.{◌≡◌, ◌+◌, ◌++◌, drop}
-use Rattle.lucy_naming.specs.Nodes.{left_entries}
+use Rattle.lucy_naming.specs.Places.{left_entries}
 use Rattle.lucy_naming.proofs.nodes.lefts.Given as goal
 
 abbrev pub invariant-each : goal.invariant-each

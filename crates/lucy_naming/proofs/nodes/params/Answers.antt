@@ -1,6 +1,6 @@
 use Rattle.std.proofs.Common.{◌++◌, ◌∷◌, [], ap, ◌∙◌, arith}
 use Rattle.lucy_place.specs.declared.entry.PlaceKind.TheVariants.{Param}
-use Rattle.lucy_naming.specs.Nodes.{declared_entry}
+use Rattle.lucy_naming.specs.Places.{declared_entry}
 use Rattle.lucy_place.proofs.ListLaws.{listed_next}
 use Rattle.lucy_naming.proofs.nodes.params.Goals as goal
 

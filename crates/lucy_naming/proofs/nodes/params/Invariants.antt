@@ -1,6 +1,6 @@
 use Rattle.std.proofs.Common.{◌≡◌, ◌++◌, drop, map}
 use Rattle.lucy_place.specs.declared.entry.PlaceKind.TheVariants.{Param}
-use Rattle.lucy_naming.specs.Nodes.{declared_entry}
+use Rattle.lucy_naming.specs.Places.{declared_entry}
 use Rattle.lucy_naming.proofs.nodes.params.Given as goal
 
 abbrev pub invariant-each : goal.invariant-each

@@ -1,6 +1,6 @@
 use Rattle.std.proofs.Common.{◌++◌, ◌∷◌, [], ap, ◌∙◌, arith}
 use Rattle.lucy_tree.specs.declared.span.Name.{Name}
-use Rattle.lucy_naming.specs.Numbering.{stream_place}
+use Rattle.lucy_naming.specs.Places.{stream_place}
 use Rattle.lucy_naming.specs.Views.{known_of}
 use Rattle.lucy_place.proofs.ListLaws.{listed_next}
 use Rattle.lucy_naming.proofs.nodes.results.Goals as goal

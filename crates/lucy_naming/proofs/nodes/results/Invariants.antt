@@ -1,5 +1,5 @@
 use Rattle.std.proofs.Common.{◌≡◌, ◌++◌, drop, map}
-use Rattle.lucy_naming.specs.Numbering.{stream_place}
+use Rattle.lucy_naming.specs.Places.{stream_place}
 use Rattle.lucy_naming.specs.Views.{known_of}
 use Rattle.lucy_naming.proofs.nodes.results.Given as goal
 

@@ -7,7 +7,8 @@ use Rattle.lucy_tree.specs.View.{tree_of}
 use Rattle.lucy_tree.proofs.expr.Expr.TheLaws.{the_size}
 use Rattle.lucy_naming.specs.Phrases as phrases
 use Rattle.lucy_naming.specs.Phrases.{Phrase, Phrases, headed, none, and, phrase_of, expr_phrase, expr_phrases}
-use Rattle.lucy_naming.specs.Numbering.{Next, Known, number, past, past_all}
+use Rattle.lucy_naming.specs.Numbering.{Next, number, past, past_all}
+use Rattle.lucy_naming.specs.Places.{Known}
 use Rattle.lucy_naming.specs.Drafts.{next_of, IsSmall, site_of}
 use Rattle.lucy_naming.specs.Views.{known_of}
 use Rattle.lucy_place.proofs.ListLaws.{drop_next}

@@ -1,7 +1,7 @@
 use Rattle.std.proofs.Common.{◌≡◌, ◌<◌, ◌≤◌, length, map, ap, sym, ◌∙◌, subst, arith}
 use Rattle.std.proofs.lemmas.List.{length-map}
 use Rattle.lucy_tree.specs.Shaped.{IsShapedProgram}
-use Rattle.lucy_tree.specs.View.{node_tree, program_tree}
+use Rattle.lucy_tree.specs.View.{ProgramTree, node_tree, program_tree}
 use Rattle.lucy_word.specs.Limits.{limit_number}
 use Rattle.lucy_word.specs.declared.limit.Limit.TheVariants as limit
 use Rattle.lucy_place.specs.Proper.{HaveOperators}
@@ -10,6 +10,7 @@ use Rattle.lucy_naming.specs.Nodes.{placed_nodes}
 use Rattle.lucy_naming.specs.Written.{first_unwritten}
 use Rattle.lucy_naming.specs.Placing.{TellsFirstFault}
 use Rattle.lucy_naming.proofs.VerdictLaws.{leaves, accepted_by, rejected_by, out_of}
+use Rattle.lucy_naming.proofs.NodesLaws.{placed_exactly}
 use Rattle.lucy_naming.proofs.ProgramLaws.{placed_length, placed_sound}
 use Rattle.lucy_naming.proofs.placing.place.Goals as goal
 
@@ -80,8 +81,10 @@ returns-clause-operators c =
 pub returns-clause-ok : goal.returns-clause-ok
 returns-clause-ok c =
     let is = c.in_ok-all_nodes.ensures in
+    let nodes = c.new.ensures.nodes ∙ (is.list ∙ ap (λ ns. placed_nodes c.args.ops.now (map node_tree ns)) c.list-nodes.ensures) in
+    let p : ProgramTree = program_tree c.args.program.now in
     record {
       good = ap (λ ns. faults c.args.ops.now (map node_tree ns)) (sym c.list-nodes.ensures) ∙ is.good;
-      nodes = c.new.ensures.nodes ∙ (is.list ∙ ap (λ ns. placed_nodes c.args.ops.now (map node_tree ns)) c.list-nodes.ensures);
+      nodes = (placed_exactly c.args.ops.now p _).1 nodes;
       unwritten = c.new.ensures.unwritten ∙ (is.spans ∙ ap (λ ns. map first_unwritten (map node_tree ns)) c.list-nodes.ensures);
     }

@@ -1,7 +1,7 @@
 use Rattle.std.proofs.Common.{◌≡◌, ◌+◌, ◌-◌, ◌<◌, ℕ, suc, List, [], ◌∷◌, ◌++◌, arith, ap, sym, ◌∙◌, append_assoc}
 use Rattle.lucy_place.specs.declared.entry.PlaceEntry.{PlaceEntry}
 use Rattle.lucy_place.specs.declared.entry.PlaceKind.TheVariants as kind
-use Rattle.lucy_naming.specs.Numbering.{results_from, unnamed}
+use Rattle.lucy_naming.specs.Places.{results_from, unnamed}
 use Rattle.lucy_naming.proofs.steps.put_results.Goals as goal
 
 results_next : (call i n : ℕ) → i < n → results_from call i (n - i) ≡ unnamed (kind.Result call i) ∷ results_from call (i + 1) (n - (i + 1))

@@ -1,5 +1,5 @@
 use Rattle.std.proofs.Common.{◌≡◌, ◌++◌, ◌-◌}
-use Rattle.lucy_naming.specs.Numbering.{results_from}
+use Rattle.lucy_naming.specs.Places.{results_from}
 use Rattle.lucy_naming.proofs.steps.put_results.Given as goal
 
 abbrev pub invariant-each : goal.invariant-each

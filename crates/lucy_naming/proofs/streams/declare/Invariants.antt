@@ -1,5 +1,6 @@
 use Rattle.std.proofs.Common.{◌≡◌, ◌++◌, drop, map}
-use Rattle.lucy_naming.specs.Streams.{declared, text_of}
+use Rattle.lucy_naming.specs.Streams.{declared}
+use Rattle.lucy_naming.specs.Views.{text_of}
 use Rattle.lucy_naming.specs.Faults.{repeats}
 use Rattle.lucy_naming.proofs.streams.declare.Given as goal
 

@@ -1,6 +1,7 @@
 use Rattle.std.proofs.Common.{◌≡◌, ◌++◌, drop, map}
 use Rattle.lucy_tree.specs.View.{def_tree}
-use Rattle.lucy_naming.specs.Streams.{def_names, text_of}
+use Rattle.lucy_naming.specs.Streams.{def_names}
+use Rattle.lucy_naming.specs.Views.{text_of}
 use Rattle.lucy_naming.specs.Faults.{repeats}
 use Rattle.lucy_naming.proofs.streams.define.Given as goal
 

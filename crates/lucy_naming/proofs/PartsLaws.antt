@@ -1,5 +1,5 @@
--- The parts of an expression are what lucy_place numbers: from the numbers that follow those of the parts before.
-use Rattle.std.proofs.Common.{◌≡◌, ◌+◌, ℕ, zero, suc, List, [], ◌∷◌, ◌++◌, length, refl, ap, ◌∙◌, arith, length-append}
+-- The parts of an expression are what is numbered of it: from the numbers that follow those of the parts before.
+use Rattle.std.proofs.Common.{◌≡◌, ◌+◌, ℕ, List, [], ◌∷◌, ◌++◌, length, refl, ap, ◌∙◌, arith, length-append}
 use Rattle.std.proofs.lemmas.List.{length-replicate}
 use Rattle.std.specs.Prelude.{map, replicate}
 use Rattle.lucy_host.specs.Operators.{Operator}
@@ -8,18 +8,16 @@ use Rattle.lucy_place.specs.declared.entry.PlaceEntry.{PlaceEntry}
 use Rattle.lucy_place.specs.declared.entry.PlaceKind.TheVariants.{Param}
 use Rattle.lucy_place.specs.declared.placed.PlacedNode.{PlacedNode}
 use Rattle.lucy_naming.specs.Phrases.{Head, Literal, Applied, Host, Sampled, Merged, Followed, Buffered, Called, Phrase, Phrases, name, headed, none, and, phrase_of}
-use Rattle.lucy_naming.specs.Streams.{streams, wanted}
-use Rattle.lucy_naming.specs.Numbering.{Next, Known, past, inside, number, numbers, entries, all_entries, own_entries, sites, all_sites, own_sites, rooms, all_rooms, own_rooms, bounds, all_bounds, own_bounds, calls, all_calls, own_calls, results_from, unnamed, stream_place}
-use Rattle.lucy_naming.specs.Nodes.{declared_entry, left_entries, past_def, defined, rights, def_sites, def_bounds, first_next, known_in, placed_node}
+use Rattle.lucy_naming.specs.Streams.{streams, result_count}
+use Rattle.lucy_naming.specs.Numbering.{Next, past, inside, number, numbers, entries, all_entries, own_entries, sites, all_sites, own_sites, rooms, all_rooms, own_rooms, bounds, all_bounds, calls, all_calls, own_calls}
+use Rattle.lucy_naming.specs.Places.{Known, own_bounds, unnamed, stream_place, declared_entry, left_entries, known_in, Parts, no_parts, in_turn, own_parts, parts_of, all_parts, def_parts, as_placed}
+use Rattle.lucy_naming.specs.Nodes.{past_def, defined, rights, def_sites, def_bounds, first_next, placed_node}
 use Rattle.lucy_place.specs.Standing.{buffer_places}
-use Rattle.lucy_right.specs.Places.{Parts, no_parts, in_turn, own_parts, parts_of, all_parts, def_parts, as_placed}
+use Rattle.lucy_naming.proofs.DraftLaws.{next_same, length_results}
 
 -- the numbers that come behind these parts
 abbrev next_of : Parts → Next
 next_of at = record { place = length at.places + 1; buffer = length at.bounds + 1; call = length at.calls + 1 }
-
-same_next : (a b : Next) → a.place ≡ b.place → a.buffer ≡ b.buffer → a.call ≡ b.call → a ≡ b
-same_next a b p q r = λ i. record { place = p i; buffer = q i; call = r i }
 
 -- what is numbered of a form by itself, of an expression, of operands and of right sides
 abbrev own_numbered : Known → Next → ℕ → Head → List ℕ → Parts
@@ -45,10 +43,6 @@ own_same k at r (Buffered most) args = refl
 own_same k at r (Called n base) args = refl
 
 -- as many of each as are counted
-length_results : (call first n : ℕ) → length (results_from call first n) ≡ n
-length_results call first zero = refl
-length_results call first (suc n) = ap suc (length_results call (first + 1) n)
-
 length_own : (k : Known) (at : Next) (r : ℕ) (h : Head) (args : List ℕ) → (length (own_entries k at r h args) ≡ own_rooms r h) × (length (own_sites k at h args) ≡ own_calls h)
 length_own k at r (Literal l) args = (refl, refl)
 length_own k at r (Applied o) args = (refl, refl)
@@ -60,7 +54,7 @@ length_own k at r (Buffered most) args = (refl, refl)
 length_own k at r (Called n base) args = (length_results at.call 0 r, refl)
 
 mutual
-  length_phrase : (k : Known) (at : Next) (r : ℕ) (f : Phrase) → (length (entries k at r f) ≡ rooms r f) × (length (sites k at r f) ≡ calls f)
+  pub length_phrase : (k : Known) (at : Next) (r : ℕ) (f : Phrase) → (length (entries k at r f) ≡ rooms r f) × (length (sites k at r f) ≡ calls f)
   length_phrase k at r (name n) = (refl, refl)
   length_phrase k at r (headed h span fs) =
       let in_ : Next = inside at r h in
@@ -82,14 +76,14 @@ next_own k at r h =
     let own : Parts = own_numbered k (next_of at) r h [] in
     let lengths = length_own k (next_of at) r h [] in
     ap (λ o. next_of (in_turn at o)) (own_same k at r h [])
-    ∙ same_next (next_of (in_turn at own)) (inside (next_of at) r h) (omega (arith, lengths.0, length-append at.places own.places)) (omega (arith, length-append at.bounds own.bounds))
+    ∙ next_same (omega (arith, lengths.0, length-append at.places own.places)) (omega (arith, length-append at.bounds own.bounds))
     (omega (arith, lengths.1, length-append at.calls own.calls))
 
 next_phrase : (k : Known) (at : Parts) (r : ℕ) (f : Phrase) → next_of (in_turn at (numbered k (next_of at) r f)) ≡ past (next_of at) r f
 next_phrase k at r f =
     let one : Parts = numbered k (next_of at) r f in
     let lengths = length_phrase k (next_of at) r f in
-    same_next (next_of (in_turn at one)) (past (next_of at) r f) (omega (arith, lengths.0, length-append at.places one.places)) (omega (arith, length-append at.bounds one.bounds))
+    next_same (omega (arith, lengths.0, length-append at.places one.places)) (omega (arith, length-append at.bounds one.bounds))
     (omega (arith, lengths.1, length-append at.calls one.calls))
 
 mutual
@@ -115,7 +109,7 @@ defs_same : (k : Known) (at : Parts) (ds : List DefTree) → def_parts k at ds �
 defs_same k at [] = refl
 defs_same k at (d ∷ ds) =
     let f : Phrase = phrase_of d.right in
-    let r : ℕ = wanted d.left in
+    let r : ℕ = result_count d.left in
     let one : Parts = numbered k (next_of at) r f in
     let more : def_parts k (in_turn at one) ds ≡ (defined k (past_def (next_of at) d) ds, def_numbered k (past_def (next_of at) d) ds) =
     defs_same k (in_turn at one) ds ∙ ap (λ n. let p : List PlaceEntry × Parts = (defined k n ds, def_numbered k n ds) in p) (next_phrase k at r f) in
@@ -127,7 +121,7 @@ module _ (ops : List Operator) (above : ProgramTree) (n : NodeTree) where
   before = record no_parts { places = replicate (length (streams n)) (unnamed Param) }
 
   first_same : next_of before ≡ first_next n
-  first_same = same_next (next_of before) (first_next n) (omega (arith, length-replicate (length (streams n)) (unnamed Param))) refl refl
+  first_same = next_same (omega (arith, length-replicate (length (streams n)) (unnamed Param))) refl refl
 
   -- a node of what its definitions come to
   abbrev made_of : List PlaceEntry × Parts → PlacedNode
