@@ -15,7 +15,7 @@ use Rattle.lucy_grammar.specs.Grammar.{rules}
 use Rattle.lucy_grammar.specs.Deriving.{Deriv, done, take, by_rule, enough, again, absent, present, spelled, value}
 use Rattle.lucy_grammar.specs.Programs.{IsProgram}
 use Rattle.lucy_grammar.specs.Parens.{kept, without_parens}
-use Rattle.lucy_grammar.specs.Print.{printed_program}
+use Rattle.lucy_grammar.specs.PrintTokens.{printed_program}
 use Rattle.lucy_grammar.specs.Printable.{Anywhere}
 use Rattle.lucy_grammar.specs.Kinds.{sort_kind}
 use Rattle.lucy_grammar.proofs.Deriving.{derived}

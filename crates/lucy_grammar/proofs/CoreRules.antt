@@ -26,7 +26,7 @@ use Rattle.lucy_grammar.specs.Symbols.{Rule, Val, Vals, Link, Part, Program, Nod
 use Rattle.lucy_grammar.specs.Meanings.{name_bytes, token_name, token_literal, token_word, token_bound, linked, grouped, sampled_by, literal_before, named, held_by}
 use Rattle.lucy_grammar.specs.Grammar.{rules}
 use Rattle.lucy_grammar.specs.Parens.{kept}
-use Rattle.lucy_grammar.specs.Print.{blank, indent, line, after, after_commas, commas, parens, name_token, lit_token, when_mark, operand, printed, all_printed, printed_decl, printed_left, printed_def, more_defs, printed_body, printed_node, more_nodes}
+use Rattle.lucy_grammar.specs.PrintTokens.{blank, indent, line, after, after_commas, commas, parens, name_token, lit_token, when_mark, operand, printed, all_printed, printed_decl, printed_left, printed_def, more_defs, printed_body, printed_node, more_nodes}
 
 plus : (a : List What) → a ≡ a ++ []
 plus a = sym (append-nil a)

@@ -17,7 +17,7 @@ use Rattle.lucy_grammar.specs.Kinds.{sort_kind}
 use Rattle.lucy_grammar.specs.Symbols.{Sym, token, part, many, perhaps, Val, Vals, Link, Part, Program, Node, Title, Params, Results, Names, Ident, MoreName, Body, Decls, MoreDecl, Decl, Typing, TypeName, ClockOf, Defs, Def, MoreDef, Lefts, Expr, Or, MoreAnd, And, MoreCmp, Cmp, Compared, CmpOp, Sum, MoreProd, SumOp, Prod, MoreSamp, ProdOp, Samp, Sampling, Pre, Followed, Form, Buffered, Held, Other, Atom, Small, Lit, Pair, Call, Applied, Base, Args, MoreExpr}
 use Rattle.lucy_grammar.specs.Meanings.{name_bytes, token_literal, token_word}
 use Rattle.lucy_grammar.specs.Parens.{kept, without_parens}
-use Rattle.lucy_grammar.specs.Print.{blank, the, after, spaced, commas, parens, name_token, lit_token, when_mark, operand, printed, all_printed, type_mark, typing, clock, printed_decl, printed_def, more_defs, printed_body, printed_node, printed_program}
+use Rattle.lucy_grammar.specs.PrintTokens.{blank, the, after, spaced, commas, parens, name_token, lit_token, when_mark, operand, printed, all_printed, type_mark, typing, clock, printed_decl, printed_def, more_defs, printed_body, printed_node, printed_program}
 
 -- the printed tokens but for parentheses
 abbrev pub core : List Printed → List What

@@ -17,8 +17,8 @@ use Rattle.lucy_token.specs.Before.{precedes_operand}
 use Rattle.lucy_token.specs.States.{ScanState, served, after, side_defined, begins_operand, is_past_last}
 use Rattle.lucy_token.specs.Spelled.{is_negative, Printed, in_print, whats_of}
 use Rattle.lucy_token.proofs.StateLaws.{before_after}
-use Rattle.lucy_grammar.specs.Print.{blank, the, after_commas, commas, parens}
-use Rattle.lucy_grammar.specs.Print as print
+use Rattle.lucy_grammar.specs.PrintTokens.{blank, the, after_commas, commas, parens}
+use Rattle.lucy_grammar.specs.PrintTokens as print
 use Rattle.lucy_grammar.proofs.FewEntries.{most}
 use Rattle.lucy_grammar.proofs.Levels.{Keeps, keeps_self, keeps_then, is_plain, keeps_plain, IsDue, due_right, opened, no_commas, opened_right, closed_after, one_on, in_list, begins_behind, begins_wanted, wanted_two}
 

@@ -21,8 +21,8 @@ use Rattle.lucy_token.specs.Spelled.{Printed, in_print, whats_of}
 use Rattle.lucy_token.proofs.StateLaws.{before_after}
 use Rattle.lucy_tree.specs.Shaped.{IsCall, Defines}
 use Rattle.lucy_grammar.specs.Printable.{IsPrintableDef, IsPrintableNode, IsPrintableProgram, Anywhere}
-use Rattle.lucy_grammar.specs.Print.{blank, indent, line, the, spaced, words, commas, parens, name_token, printed, printed_decl, printed_left, printed_def, more_defs, printed_body, printed_node, more_nodes, printed_program}
-use Rattle.lucy_grammar.specs.Print as print
+use Rattle.lucy_grammar.specs.PrintTokens.{blank, indent, line, the, spaced, words, commas, parens, name_token, printed, printed_decl, printed_left, printed_def, more_defs, printed_body, printed_node, more_nodes, printed_program}
+use Rattle.lucy_grammar.specs.PrintTokens as print
 use Rattle.lucy_grammar.proofs.Cores.{core, put_after}
 use Rattle.lucy_grammar.proofs.Weights.{weight, IsLight, AreLight}
 use Rattle.lucy_grammar.proofs.FewEntries.{most, IsFew, IsFewDef, IsFewNode}

@@ -22,8 +22,8 @@ use Rattle.lucy_token.specs.Spelled.{Printed, in_print}
 use Rattle.lucy_token.specs.Marks.{op_mark}
 use Rattle.lucy_grammar.specs.Parens.{kept}
 use Rattle.lucy_grammar.specs.Meanings.{two}
-use Rattle.lucy_grammar.specs.Print.{blank, the, after_commas, commas, parens, name_token, lit_token, when_mark, operand, printed, all_printed}
-use Rattle.lucy_grammar.specs.Print as print
+use Rattle.lucy_grammar.specs.PrintTokens.{blank, the, after_commas, commas, parens, name_token, lit_token, when_mark, operand, printed, all_printed}
+use Rattle.lucy_grammar.specs.PrintTokens as print
 use Rattle.lucy_grammar.proofs.Cores.{core, core-append, put_after, put_operand, put_later, put_parens}
 use Rattle.lucy_grammar.proofs.Weights.{weight}
 use Rattle.lucy_grammar.proofs.FewEntries.{most, IsFew, AreFew}

@@ -24,7 +24,7 @@ use Rattle.lucy_token.proofs.FollowLaws.{apart_close, apart_comma}
 use Rattle.lucy_host.specs.Arity.{arity}
 use Rattle.lucy_token.specs.Marks.{op_mark}
 use Rattle.lucy_grammar.specs.Printable.{IsPrintable, ArePrintable, IsPrintableDef, IsPrintableNode, IsPrintableProgram, Anywhere}
-use Rattle.lucy_grammar.specs.Print.{blank, indent, line, one, the, after, spaced, words, after_commas, commas, parens, name_token, word_token, lit_token, when_mark, operated, called, operand, printed, all_printed, operands, type_mark, printed_decl, printed_left, printed_def, more_defs, printed_body, printed_node, more_nodes, printed_program}
+use Rattle.lucy_grammar.specs.PrintTokens.{blank, indent, line, one, the, after, spaced, words, after_commas, commas, parens, name_token, word_token, lit_token, when_mark, operated, called, operand, printed, all_printed, operands, type_mark, printed_decl, printed_left, printed_def, more_defs, printed_body, printed_node, more_nodes, printed_program}
 
 -- tokens that stand apart, and from every token before them
 pub record IsLoose (rest : List Printed) : Type 0 where

@@ -29,7 +29,9 @@ pub mod CoreRules
 pub mod CoreLaws
 pub mod PrintedOrder
 mod Rows
+mod PrintRows
 pub mod PrintedText
+mod PrintedBytes
 mod CutLimits
 mod Counts
 mod Levels

@@ -2,7 +2,7 @@
 use Rattle.std.proofs.Common.{ℕ, ◌≡◌, List, [], ◌++◌, ◌∷◌, ap, sym, ◌∙◌, append_assoc, append-nil}
 use Rattle.std.specs.List.{AllByRecursion}
 use Rattle.lucy_token.specs.Spelled.{Printed}
-use Rattle.lucy_grammar.specs.Print.{spaced_text, commas}
+use Rattle.lucy_grammar.specs.PrintTokens.{spaced_text, commas}
 use Rattle.lucy_grammar.proofs.PrintedText.{IsTight, listed, text_commas}
 
 -- one more text behind what parts it from those before, and before what is left

@@ -23,7 +23,7 @@ use Rattle.lucy_grammar.specs.Meanings.{name_bytes, token_name, token_literal, t
 use Rattle.lucy_grammar.specs.Grammar.{rules}
 use Rattle.lucy_grammar.specs.Deriving.{Deriv, done, take, by_rule, enough, again, absent, present, spelled, value}
 use Rattle.lucy_grammar.specs.Programs.{IsProgram}
-use Rattle.lucy_grammar.specs.Print.{when_mark}
+use Rattle.lucy_grammar.specs.PrintTokens.{when_mark}
 use Rattle.lucy_host.specs.Arity.{arity}
 use Rattle.lucy_tree.specs.Shaped.{most_bound, IsCall, Defines}
 use Rattle.lucy_grammar.specs.Printable.{MayBeNamed, IsLit, MayHaveBound, IsWordBehind, IsPrintable, ArePrintable, AllOfSome, IsPrintableDecl, IsPrintableDef, IsPrintableNode, IsPrintableProgram, StandAfter, Anywhere}

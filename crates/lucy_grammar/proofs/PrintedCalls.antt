@@ -12,7 +12,7 @@ use Rattle.lucy_token.specs.Spelled.{Printed, in_print}
 use Rattle.lucy_grammar.specs.Symbols.{many, Expr, Pre, Pair, Call, Applied, Base, Args, MoreExpr}
 use Rattle.lucy_grammar.specs.Meanings.{two}
 use Rattle.lucy_grammar.specs.Grammar.{rules}
-use Rattle.lucy_grammar.specs.Print.{blank, the, after, after_commas, commas, parens, printed, all_printed}
+use Rattle.lucy_grammar.specs.PrintTokens.{blank, the, after, after_commas, commas, parens, printed, all_printed}
 use Rattle.lucy_grammar.specs.Spans.{unplaced_name, unplaced, all_unplaced}
 use Rattle.lucy_grammar.specs.Printable.{IsPrintable, ArePrintable}
 use Rattle.lucy_grammar.proofs.Spelling.{Spells, Is, spell_end, spell_token, spell_after, spell_part, spell_again, spell_there, spell_none, spell_out, spell_rule}

@@ -20,7 +20,7 @@ use Rattle.lucy_grammar.specs.Symbols.{part, many, perhaps, Program, Node, Title
 use Rattle.lucy_grammar.specs.Grammar.{rules}
 use Rattle.lucy_grammar.specs.Deriving.{value}
 use Rattle.lucy_grammar.specs.Programs.{IsProgram}
-use Rattle.lucy_grammar.specs.Print.{blank, indent, line, the, after, after_commas, commas, parens, name_token, printed, type_mark, printed_decl, printed_left, printed_def, more_defs, printed_body, printed_node, more_nodes, printed_program}
+use Rattle.lucy_grammar.specs.PrintTokens.{blank, indent, line, the, after, after_commas, commas, parens, name_token, printed, type_mark, printed_decl, printed_left, printed_def, more_defs, printed_body, printed_node, more_nodes, printed_program}
 use Rattle.lucy_grammar.specs.Spans.{unplaced_token, unplaced_name, unplaced_decl, unplaced, unplaced_def, unplaced_node, unplaced_program, IsAlike}
 use Rattle.lucy_tree.specs.Shaped.{IsCall, Defines}
 use Rattle.lucy_grammar.specs.Printable.{MayBeNamed, AllOfSome, IsPrintable, IsPrintableDef, IsPrintableNode, IsPrintableProgram}

@@ -17,7 +17,7 @@ use Rattle.lucy_token.specs.Spelled.{Printed, text_of_what}
 use Rattle.lucy_token.specs.Marks.{op_mark}
 use Rattle.lucy_grammar.specs.Meanings.{two}
 use Rattle.lucy_grammar.specs.Sheets.{call_front}
-use Rattle.lucy_grammar.specs.Print.{blank, indent, line, one, the, after, spaced, words, after_commas, commas, parens, name_token, word_token, lit_token, when_mark, operated, called, operand, printed, all_printed, operands, printed_decl, printed_left, printed_def, more_defs, printed_body, printed_node, more_nodes, spaced_text}
+use Rattle.lucy_grammar.specs.PrintTokens.{blank, indent, line, one, the, after, spaced, words, after_commas, commas, parens, name_token, word_token, lit_token, when_mark, operated, called, operand, printed, all_printed, operands, printed_decl, printed_left, printed_def, more_defs, printed_body, printed_node, more_nodes, spaced_text}
 
 pub text-append : (a b : List Printed) → spaced_text (a ++ b) ≡ spaced_text a ++ spaced_text b
 text-append [] b = refl
@@ -98,7 +98,7 @@ mutual
   tight (buffered (Some n) e span) = refl
   tight (call n at args) = tight_called n at (parens (commas (all_printed args)))
 
-  tight_operands : (ts : Trees) → AllByRecursion IsTight (operands ts)
+  pub tight_operands : (ts : Trees) → AllByRecursion IsTight (operands ts)
   tight_operands no_more = tt
   tight_operands (more t ts) = (tight_bare t (printed t) (tight t), tight_operands ts)
 

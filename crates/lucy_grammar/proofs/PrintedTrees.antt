@@ -18,7 +18,7 @@ use Rattle.lucy_token.specs.Spelled.{Printed, in_print}
 use Rattle.lucy_grammar.specs.Symbols.{Expr, Or, And, Cmp, CmpOp, Sum, SumOp, Prod, ProdOp, Samp, Sampling, Pre, Form, Buffered, Held, Atom, Small, Lit}
 use Rattle.lucy_grammar.specs.Meanings.{two}
 use Rattle.lucy_grammar.specs.Grammar.{rules}
-use Rattle.lucy_grammar.specs.Print.{blank, parens, name_token, lit_token, when_mark, operated, operand, printed, operands}
+use Rattle.lucy_grammar.specs.PrintTokens.{blank, parens, name_token, lit_token, when_mark, operated, operand, printed, operands}
 use Rattle.lucy_grammar.specs.Spans.{nowhere, unplaced_name, unplaced, all_unplaced}
 use Rattle.lucy_host.specs.Arity.{arity}
 use Rattle.lucy_grammar.proofs.Spelling.{Is, spell_end, spell_token, spell_sort, spell_there, spell_alike, spell_after, spell_part, spell_out, spell_once, spell_given, spell_alone, spell_only, spell_rule}

@@ -20,12 +20,14 @@ use Rattle.lucy_token.proofs.WordAgain.{spelled_again}
 use Rattle.lucy_token.proofs.PrintLaws.{cut_printed}
 use Rattle.lucy_grammar.specs.Programs.{IsProgram}
 use Rattle.lucy_grammar.specs.Parens.{without_parens}
-use Rattle.lucy_grammar.specs.Print.{line, printed_program, program_text}
+use Rattle.lucy_grammar.specs.Print.{program_text}
+use Rattle.lucy_grammar.specs.PrintTokens.{line, printed_program}
 use Rattle.lucy_grammar.specs.Printable.{StandAfter, MayFollow, AllMayFollow, IsPrintableProgram, Anywhere}
 use Rattle.lucy_grammar.specs.Spans.{IsAlike}
 use Rattle.lucy_grammar.proofs.PrintableLaws.{printable, all_stand}
 use Rattle.lucy_grammar.proofs.PrintedOrder.{printed_order}
 use Rattle.lucy_grammar.proofs.PrintedPrograms.{printed_again}
+use Rattle.lucy_grammar.proofs.PrintedBytes.{program_bytes}
 use Rattle.lucy_grammar.proofs.CoreLaws.{same_core}
 use Rattle.lucy_grammar.proofs.CutLimits.{AllPass, tokens_pass}
 use Rattle.lucy_grammar.proofs.Counts.{Count, count_of, AllCount, counted_on, none_passed, all_count, count_core, core_count}
@@ -109,5 +111,5 @@ read_again text ts n p q d =
     let Q : ℕ → Type 0 = λ to. Cuts 0 [] (program_text p) us (End to) in
     let same : map (λ t. t.what) us ≡ whats_of ps = placed_whats 0 ps in
     let r = printed_again Anywhere p us (printable Anywhere kind.End ts p d (all_stand kind.End ts)) same in
-    let cut : Q (0 + length (program_text p)) = subst P (bytes-behind ps line) (cut_printed 0 [] ps line (print_follows text ts n p q d) refl) in
+    let cut : Q (0 + length (program_text p)) = subst P (bytes-behind ps line ∙ program_bytes p) (cut_printed 0 [] ps line (print_follows text ts n p q d) refl) in
     (us, r.0, subst Q (let e : 0 + length (program_text p) ≡ length (program_text p) = omega arith in e) cut, r.1, r.2)

@@ -1,13 +1,10 @@
--- Small programs: which tokens they are, and how they are printed.
+-- Small programs: which tokens they are.
 use Rattle.std.specs.Prelude.{codes, pos, neg_ℤ}
-use Rattle.std.specs.Fmt.{digits}
-use Rattle.std.proofs.Common.{ℕ, ◌≡◌, ◌<◌, length, lit<, true, false, List, [], ◌∷◌, Some, None, refl}
-use Rattle.lucy_word.specs.Bits.{Bits}
+use Rattle.std.proofs.Common.{ℕ, ◌≡◌, ◌<◌, length, lit<, true, false, List, [], ◌∷◌, None, refl}
 use Rattle.lucy_host.specs.declared.op.Op.TheVariants as op
-use Rattle.lucy_host.specs.declared.data_type.DataType.TheVariants as holds
 use Rattle.lucy_tree.specs.declared.span.Name as name
 use Rattle.lucy_tree.specs.declared.expr.Lit.TheVariants as lit
-use Rattle.lucy_tree.specs.Tree.{Tree, literal, variable, operator, host, sampled, merged, followed, buffered, call, no_more, more}
+use Rattle.lucy_tree.specs.Tree.{Tree, variable, operator, followed}
 use Rattle.lucy_tree.specs.View.{ProgramTree}
 use Rattle.lucy_token.specs.declared.mark.Mark.{Mark}
 use Rattle.lucy_token.specs.declared.mark.Mark.TheVariants as mark
@@ -20,79 +17,17 @@ use Rattle.lucy_tree.specs.declared.decl.Decl as decl
 use Rattle.lucy_grammar.specs.Symbols.{Body, Decl, Typing, ClockOf, Expr, MoreAnd, MoreCmp, Compared, Sum, MoreProd, Prod, MoreSamp, Sampling, Pre}
 use Rattle.lucy_grammar.specs.Kinds.{is_bound}
 use Rattle.lucy_grammar.specs.Grammar.{rules}
-use Rattle.lucy_grammar.specs.Meanings.{two, grouped}
-use Rattle.lucy_grammar.specs.Print.{printed, spaced_text, program_text}
+use Rattle.lucy_grammar.specs.Meanings.{two}
 use Rattle.lucy_grammar.specs.Programs.{IsProgram, IsFirstUnfit}
 use Rattle.lucy_grammar.specs.Reading.{follows, begins, Reads, IsBegun}
 use Rattle.lucy_grammar.proofs.Growing.{programs, defs, ors, ands, sums, prods, samps, grown_first, grown_more, grown_ended, grown_bad}
 use Rattle.lucy_grammar.proofs.Numbers.{not_in}
 use Rattle.lucy_grammar.proofs.Steps.{end, tok, sub, opt, out, rule, led, others, sole, sole_no, sub_bad, tok_no, tok_bad}
 use Rattle.lucy_grammar.proofs.Whole.{is_program, is_unfit}
-use Rattle.lucy_grammar.specs.Spans.{nowhere}
-
-called : List ℕ → name.Name
-called bytes = record { text = bytes; span = nowhere }
-
-x : name.Name
-x = called (codes "x")
-
-o : name.Name
-o = called (codes "o")
 
 -- a declaration of a name alone
 abbrev bare : name.Name → decl.Decl
 bare n = record { name = n; holds = None; word = None }
-
--- let node sum x = o where rec o = x + (0 fby o)
-sum : ProgramTree
-sum = record {
-  name = called (codes "sum");
-  params = bare x ∷ [];
-  results = o ∷ [];
-  defs = record { left = bare o ∷ []; right = operator op.Add (two (variable x) (followed (lit.Int (pos 0)) (variable o) nowhere)) nowhere } ∷ [];
-} ∷ []
-
-sum_text : program_text sum ≡ codes "let node sum (x) = (o) where rec\n  o = x + (0 fby o)\n"
-unfolding sum called x o digits
-sum_text = refl
-
--- every form but `if` and `not`, with types, clocks, several names and a second node
-y : name.Name
-y = called (codes "y")
-
-two_ones : Bits
-two_ones = record { prefix = false ∷ []; period = true ∷ true ∷ false ∷ [] }
-
-rich : ProgramTree
-rich = record { name = called (codes "f"); params = []; results = x ∷ y ∷ []; defs = [] } ∷ record {
-  name = called (codes "g");
-  params = record { name = x; holds = Some holds.Int; word = Some two_ones } ∷ record { name = y; holds = Some holds.Bool; word = None } ∷ [];
-  results = o ∷ [];
-  defs = record { left = bare x ∷ record { name = y; holds = None; word = Some two_ones } ∷ []; right = call (called (codes "f")) (Some two_ones) no_more }
-      ∷ record { left = bare o ∷ []; right = merged two_ones (literal (lit.Int (neg_ℤ (pos 12))) nowhere) (host (called (codes "min")) (two (buffered None (variable x) nowhere) (sampled true (call (called (codes "f")) None (two (variable x) (literal (lit.Bool true) nowhere))) two_ones))) nowhere }
-      ∷ [];
-} ∷ []
-
-rich_text : program_text rich ≡ codes "let node f () = (x, y)\nlet node g (x : int :: 0(110), y : bool) = (o) where rec\n  (x, y :: 0(110)) = f at 0(110) ()\n  and o = merge 0(110) -12 (host min (buffer x, (f (x, true)) whenot 0(110)))\n"
-unfolding rich called x y o two_ones digits
-rich_text = refl
-
--- operators: the text of `if not x then x - y - y else x`, which groups to the left
-choice : Tree
-choice = operator op.If (more (operator op.Not (more (variable x) no_more) nowhere)
-    (two (grouped (variable x) (record { op = op.Sub; span = nowhere; right = variable y } ∷ record { op = op.Sub; span = nowhere; right = variable y } ∷ [])) (variable x))) nowhere
-
-choice_text : spaced_text (printed choice) ≡ codes "if (not x) then ((x - y) - y) else x"
-unfolding choice called x y
-choice_text = refl
-
--- a written bound holds a whole expression, without parentheses of its own
-bounded : Tree
-bounded = buffered (Some 3) (operator op.Add (two (variable x) (buffered None (operator op.Not (more (variable y) no_more) nowhere) nowhere)) nowhere) nowhere
-
-bounded_text : spaced_text (printed bounded) ≡ codes "buffer 3 (x + (buffer (not y)))"
-unfolding bounded called x y digits
-bounded_text = refl
 
 -- numbers from 0 to 4,095 may be a bound
 bounds : (is_bound (what.Number (pos 0)) ≡ true) × (is_bound (what.Number (pos 4095)) ≡ true) × (is_bound (what.Number (pos 4096)) ≡ false) × (is_bound (what.Number (neg_ℤ (pos 1))) ≡ false)

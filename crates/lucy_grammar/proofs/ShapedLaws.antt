@@ -21,7 +21,7 @@ use Rattle.lucy_token.specs.Before.{wants_zero}
 use Rattle.lucy_token.specs.States.{start, nodes_after}
 use Rattle.lucy_token.specs.Written.{IsWritten}
 use Rattle.lucy_token.specs.Spelled.{Printed, whats_of}
-use Rattle.lucy_grammar.specs.Print.{line, after, when_mark, printed_node, more_nodes, printed_program}
+use Rattle.lucy_grammar.specs.PrintTokens.{line, after, when_mark, printed_node, more_nodes, printed_program}
 use Rattle.lucy_grammar.specs.Printable.{IsPrintable, ArePrintable, IsPrintableDef, IsPrintableNode, IsPrintableProgram}
 use Rattle.lucy_grammar.specs.Texts.{HasTree}
 use Rattle.lucy_grammar.proofs.Counts.{Count, count_of, count_on, counts, AllCount}

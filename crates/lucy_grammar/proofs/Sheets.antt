@@ -1,7 +1,7 @@
 -- What is printed one after another.
 use Rattle.std.proofs.Common.{ℕ, ◌≡◌, List, [], ◌∷◌, ◌++◌, Option, Some, None, ap, sym, ◌∙◌, append_assoc, append-nil}
 use Rattle.lucy_token.specs.declared.mark.Mark.{Mark}
-use Rattle.lucy_grammar.specs.Print.{blank, spaced_text, the}
+use Rattle.lucy_grammar.specs.PrintTokens.{blank, spaced_text, the}
 use Rattle.lucy_grammar.specs.Sheets.{Adds}
 
 -- a text, and then another
@@ -30,6 +30,11 @@ led m {b = b} p q = adds_as (behind p q) (append_assoc (spaced_text (the m)) bla
 
 pub between : (m : Mark) {b : List ℕ} {r s t : Option (List ℕ)} → Adds (32 ∷ (spaced_text (the m) ++ blank)) r s → Adds b s t → Adds (32 ∷ (spaced_text (the m) ++ (32 ∷ b))) r t
 between m {b = b} p q = adds_as (behind p q) (ap (λ u. 32 ∷ u) (append_assoc (spaced_text (the m)) blank b))
+
+-- a sign, and a text with a blank on either side
+pub fronted : (m : Mark) (a : List ℕ) {b : List ℕ} {r s t : Option (List ℕ)} → Adds (spaced_text (the m) ++ (32 ∷ (a ++ blank))) r s → Adds b s t → Adds (spaced_text (the m) ++ (32 ∷ (a ++ (32 ∷ b)))) r t
+fronted m a {b = b} p q =
+    adds_as (behind p q) (append_assoc (spaced_text (the m)) (32 ∷ (a ++ blank)) b ∙ ap (λ u. spaced_text (the m) ++ (32 ∷ u)) (append_assoc a blank b))
 
 -- memory ran out, or the bytes are behind the others
 pub runs_out : {a : List ℕ} {r s : Option (List ℕ)} → s ≡ None → Adds a r s

@@ -11,7 +11,7 @@ use Rattle.lucy_grammar.specs.Symbols.{Part, Sym, token, any, part, many, perhap
 use Rattle.lucy_grammar.specs.Kinds.{Sort, of, Fits}
 use Rattle.lucy_grammar.specs.Grammar.{rules}
 use Rattle.lucy_grammar.specs.Deriving.{Deriv, done, take, by_rule, enough, absent, spelled, value}
-use Rattle.lucy_grammar.specs.Print.{after}
+use Rattle.lucy_grammar.specs.PrintTokens.{after}
 use Rattle.lucy_grammar.specs.Spans.{nowhere}
 use Rattle.lucy_grammar.proofs.Completions.{join}
 use Rattle.lucy_grammar.proofs.Tokens.{same_pair}

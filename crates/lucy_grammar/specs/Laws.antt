@@ -7,8 +7,9 @@ use Rattle.lucy_token.specs.declared.stop.SyntaxError.{SyntaxError}
 use Rattle.lucy_token.specs.Cuts.{Cuts}
 use Rattle.lucy_token.specs.Spelled.{whats_of}
 use Rattle.lucy_grammar.specs.Parens.{without_parens}
-use Rattle.lucy_grammar.specs.Print.{printed_program, program_text}
+use Rattle.lucy_grammar.specs.Print.{program_text}
 use Rattle.lucy_grammar.specs.Printable.{IsPrintableProgram, Anywhere}
+use Rattle.lucy_grammar.specs.PrintTokens.{printed_program}
 use Rattle.lucy_grammar.specs.Programs.{IsProgram, BeginsProgram, IsFirstUnfit}
 use Rattle.lucy_grammar.specs.Spans.{IsAlike}
 use Rattle.lucy_grammar.specs.Texts.{HasTree, IsRefused}

@@ -22,7 +22,7 @@ use Rattle.lucy_token.specs.declared.token.What.TheVariants as what
 use Rattle.lucy_token.specs.declared.token.Token.{Token}
 use Rattle.lucy_token.specs.Tokens.{kind_of}
 use Rattle.lucy_token.specs.Before.{wants_word}
-use Rattle.lucy_grammar.specs.Print.{when_mark}
+use Rattle.lucy_grammar.specs.PrintTokens.{when_mark}
 
 -- the name may stand somewhere
 abbrev pub MayBeNamed : (Kind → What → Type 0) → Name → Type 0

@@ -3,7 +3,7 @@ use Rattle.std.specs.Prelude.{ℕ, ◌≡◌, List, ◌∷◌, ◌++◌, Option,
 use Rattle.lucy_word.specs.Bits.{Bits}
 use Rattle.lucy_tree.specs.declared.span.Name.{Name}
 use Rattle.lucy_token.specs.declared.mark.Mark.TheVariants as mark
-use Rattle.lucy_grammar.specs.Print.{blank, spaced_text, the, name_token, word_token}
+use Rattle.lucy_grammar.specs.PrintTokens.{blank, spaced_text, the, name_token, word_token}
 
 -- the text is put behind what is there, unless memory runs out
 pub record Adds (text : List ℕ) (old new : Option (List ℕ)) : Type 0 where

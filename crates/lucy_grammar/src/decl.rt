@@ -1,6 +1,6 @@
 // Writes declarations and names.
 ghost use Rattle.std.specs.Prelude.{◌≡◌, map};
-ghost use Rattle.lucy_grammar.specs.Print.{spaced_text, spaced, parens, commas, typing, clock, name_token, printed_decl, printed_left};
+ghost use Rattle.lucy_grammar.specs.PrintTokens.{spaced_text, spaced, parens, commas, typing, clock, name_token, printed_decl, printed_left};
 ghost use Rattle.lucy_grammar.specs.Sheets.{Adds};
 
 use crate::sheet::{Sheet, type_mark};

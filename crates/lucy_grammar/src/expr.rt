@@ -1,15 +1,16 @@
 // Writes expressions.
-ghost use Rattle.std.specs.Prelude.{◌≡◌};
+ghost use Rattle.std.specs.Prelude.{◌≡◌, ◌∷◌, ◌++◌};
+ghost use Rattle.lucy_token.specs.declared.mark.Mark.TheVariants as mark;
 ghost use Rattle.lucy_tree.specs.Tree as tree;
 ghost use Rattle.lucy_tree.specs.View.{tree_of, all_trees};
 ghost use Rattle.lucy_grammar.specs.Spans.{nowhere};
-ghost use Rattle.lucy_grammar.specs.Print.{spaced_text, printed, operand, parens, operated, operands, commas, all_printed};
+ghost use Rattle.lucy_grammar.specs.PrintTokens.{blank, the, name_token, word_token, spaced_text, printed, operand, parens, operated, operands, commas, all_printed};
 ghost use Rattle.lucy_grammar.specs.Sheets.{Adds, call_front};
 
 use crate::sheet::{Sheet, when_mark};
 use lucy_host::Op;
 use lucy_token::{Mark, op_mark};
-use lucy_tree::{Expr, Name};
+use lucy_tree::{Expr, Lit, Name};
 use lucy_word::Word;
 
 /// An expression, without parentheses round it.
@@ -22,29 +23,21 @@ pub(crate) fn expr(expr: &Expr, out: &mut Sheet)
         Expr::Var { name } => out.name(name),
         Expr::Op { op, args, .. } => operated(*op, args.list(), out),
         Expr::Host { name, args } => {
-            out.leading(Mark::Host);
-            out.name(name);
-            out.blank();
+            hosted(name, out);
             enclosed_all(args.list(), out);
         }
         Expr::When {
             flip,
             operand: inner,
             word,
-        } => {
-            operand(inner, out);
-            out.between(when_mark(*flip));
-            out.word(word);
-        }
+        } => sampled(*flip, inner, word, out),
         Expr::Merge {
             word,
             one,
             zero,
             ..
         } => {
-            out.leading(Mark::Merge);
-            out.word(word);
-            out.blank();
+            merging(word, out);
             operand(one, out);
             out.blank();
             operand(zero, out);
@@ -53,11 +46,7 @@ pub(crate) fn expr(expr: &Expr, out: &mut Sheet)
             first,
             operand: later,
             ..
-        } => {
-            out.lit(*first);
-            out.between(Mark::Fby);
-            operand(later, out);
-        }
+        } => followed(*first, later, out),
         Expr::Buffer {
             most,
             operand: inner,
@@ -68,6 +57,44 @@ pub(crate) fn expr(expr: &Expr, out: &mut Sheet)
             enclosed_all(args.list(), out);
         }
     }
+}
+
+// What stands in a call of the host's before its operands: `host NAME `
+fn hosted(name: &Name, out: &mut Sheet)
+    ensures { Adds (spaced_text (the mark.Host) ++ (32 ∷ (spaced_text (name_token name.now) ++ blank))) out.old out.new }
+{
+    out.leading(Mark::Host);
+    out.name(name);
+    out.blank();
+}
+
+// What stands in a merge before its operands: `merge W `
+fn merging(word: &Word, out: &mut Sheet)
+    ensures { Adds (spaced_text (the mark.Merge) ++ (32 ∷ (spaced_text (word_token word.now) ++ blank))) out.old out.new }
+{
+    out.leading(Mark::Merge);
+    out.word(word);
+    out.blank();
+}
+
+// `A when W`, or with `flip` `A whenot W`
+#[cycle(printed)]
+fn sampled(flip: bool, inner: &Expr, word: &Word, out: &mut Sheet)
+    ensures { Adds (spaced_text (printed (tree.sampled flip (tree_of inner.now) word.now))) out.old out.new }
+{
+    operand(inner, out);
+    out.between(when_mark(flip));
+    out.word(word);
+}
+
+// `L fby A`
+#[cycle(printed)]
+fn followed(first: Lit, later: &Expr, out: &mut Sheet)
+    ensures { Adds (spaced_text (printed (tree.followed first (tree_of later.now) nowhere))) out.old out.new }
+{
+    out.lit(first);
+    out.between(Mark::Fby);
+    operand(later, out);
 }
 
 // `buffer A`, or with a written bound `buffer B (E)`

@@ -3,7 +3,7 @@
 //!
 //! It stands on `lucy_word`, `lucy_host`, `lucy_tree` and `lucy_token`. Begin with the table, `specs/Grammar.antt`;
 //! `specs/Texts.antt` says which texts have a tree and why one is refused, and `specs/Print.antt` how a program is printed, which
-//! is what `print` in `printing.rt` does; `expr.rt` has the forms of expressions.
+//! is what `print` in `printing.rt` does, token by token (`specs/PrintTokens.antt`); `expr.rt` has the forms of expressions.
 #![tactic(auto)]
 
 mod decl;

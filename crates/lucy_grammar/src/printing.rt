@@ -1,9 +1,10 @@
 // Prints a program.
-ghost use Rattle.std.specs.Prelude.{◌≡◌, ◌≤◌, ℕ, List, IfOk, length};
+ghost use Rattle.std.specs.Prelude.{◌≡◌, ◌≤◌, ◌++◌, ℕ, List, IfOk, length};
 ghost use Rattle.lucy_word.specs.Limits.{limit_number};
 ghost use Rattle.lucy_word.specs.declared.limit.Limit.TheVariants as limit;
 ghost use Rattle.lucy_tree.specs.View.{ProgramTree, program_tree};
 ghost use Rattle.lucy_grammar.specs.Print.{program_text};
+ghost use Rattle.lucy_grammar.specs.PrintTokens.{line, printed_program, spaced_text};
 ghost use Rattle.lucy_grammar.specs.Spans.{IsAlike};
 ghost use Rattle.lucy_grammar.specs.Texts.{HasTree};
 
@@ -13,9 +14,9 @@ use lucy_tree::Program;
 use lucy_word::OutOfMemory;
 use std::alloc::Global;
 
-// The text of a program, a node after another.
+// The bytes of a program's tokens in print, and the end of the last line.
 fn written(alloc: Global, program: &Program) -> Result<Vec<u8>, OutOfMemory>
-    ensures { IfOk result (λ text. text.items ≡ program_text (program_tree program.now)) }
+    ensures { IfOk result (λ text. text.items ≡ spaced_text (printed_program (program_tree program.now)) ++ line) }
 {
     let mut out = Sheet::new(alloc);
     nodes(program.nodes.list(), &mut out);

@@ -1,7 +1,7 @@
 // Writes definitions and nodes.
 ghost use Rattle.std.specs.Prelude.{◌≡◌, map};
 ghost use Rattle.lucy_tree.specs.View.{def_tree, node_tree};
-ghost use Rattle.lucy_grammar.specs.Print.{spaced_text, line, indent, printed_def, printed_body, printed_node, more_defs, more_nodes, printed_program};
+ghost use Rattle.lucy_grammar.specs.PrintTokens.{spaced_text, line, indent, printed_def, printed_body, printed_node, more_defs, more_nodes, printed_program};
 ghost use Rattle.lucy_grammar.specs.Sheets.{Adds};
 
 use crate::decl::{decls, left, names};

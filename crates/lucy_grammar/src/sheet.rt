@@ -1,7 +1,7 @@
 // A sheet to print on, and what is printed there of single tokens and of the blanks between them.
 ghost use Rattle.std.specs.Prelude.{◌≡◌, ◌∷◌, ◌++◌, [], IfOk, Some, pos};
 ghost use Rattle.lucy_token.specs.declared.token.What.TheVariants as what;
-ghost use Rattle.lucy_grammar.specs.Print as spec;
+ghost use Rattle.lucy_grammar.specs.PrintTokens as spec;
 ghost use Rattle.lucy_grammar.specs.Sheets.{Adds};
 
 use lucy_host::DataType;

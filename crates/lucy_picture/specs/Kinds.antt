@@ -6,7 +6,7 @@ use Rattle.lucy_word.specs.Spelling.{text_of}
 use Rattle.lucy_host.specs.declared.op.Op.{Op}
 use Rattle.lucy_tree.specs.Tree.{Tree, host, sampled, call}
 use Rattle.lucy_token.specs.Marks.{spelling, op_mark}
-use Rattle.lucy_grammar.specs.Print.{lit_token, spaced_text}
+use Rattle.lucy_grammar.specs.Print.{literal_text}
 use Rattle.lucy_place.specs.declared.entry.PlaceEntry.{PlaceEntry}
 use Rattle.lucy_place.specs.declared.entry.PlaceKind.{PlaceKind}
 use Rattle.lucy_place.specs.declared.entry.PlaceKind.TheVariants as kind
@@ -69,12 +69,12 @@ call_text n name site = name ++ (at_text site.at ++ in_parens n site.args)
 abbrev pub kind_text : PlacedNode → PlaceKind → (form : Option Tree) → List ℕ
 kind_text n kind.Param form = []
 kind_text n (kind.Defined right) form = place_name n right
-kind_text n (kind.Lit l) form = spaced_text (lit_token l)
+kind_text n (kind.Lit l) form = literal_text l
 kind_text n (kind.Op op places) form = operator_text n op places
 kind_text n (kind.Host op a b) form = codes "host " ++ (host_name form ++ in_parens n (a ∷ b ∷ []))
 kind_text n (kind.When e word) form = place_name n e ++ sampling_text word (whenot_word form)
 kind_text n (kind.Merge word a b) form = codes "merge " ++ (text_of word ++ (codes " " ++ (place_name n a ++ (codes " " ++ place_name n b))))
-kind_text n (kind.Fby l e) form = spaced_text (lit_token l) ++ (codes " fby " ++ place_name n e)
+kind_text n (kind.Fby l e) form = literal_text l ++ (codes " fby " ++ place_name n e)
 kind_text n (kind.Buffer k e) form = buffer_text (bound_of n k) (place_name n e)
 kind_text n (kind.Result k nth) form = nth_text nth ++ of_one (call_text n (called_name form)) (at_one n.calls k)
 

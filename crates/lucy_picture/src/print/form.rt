@@ -3,7 +3,7 @@ ghost use Rattle.std.specs.Prelude.{◌≡◌, ◌∷◌, ◌++◌, [], OnOk, co
 ghost use Rattle.std.specs.Fmt.{decimal};
 ghost use Rattle.std.specs.Option.{option_map};
 ghost use Rattle.lucy_tree.specs.View.{tree_of};
-ghost use Rattle.lucy_grammar.specs.Print.{lit_token, spaced_text};
+ghost use Rattle.lucy_grammar.specs.Print.{literal_text};
 ghost use Rattle.lucy_place.specs.Standing.{at_one, bound_of};
 ghost use Rattle.lucy_program.specs.Names.{of_one, name_at, place_name, place_names, listed};
 ghost use Rattle.lucy_picture.specs.Kinds as spec;
@@ -75,7 +75,7 @@ fn put_in_parens(
 
 // Puts a literal last.
 fn put_literal(alloc: Global, literal: Lit, out: &mut Vec<u8>) -> Result<(), AllocError>
-    ensures { OnOk result (out.new.items ≡ out.old.items ++ spaced_text (lit_token literal)) }
+    ensures { OnOk result (out.new.items ≡ out.old.items ++ literal_text literal) }
 {
     match literal {
         Lit::Int(number) => put(out, format!(in alloc; "{number}")?.as_bytes()),
@@ -341,7 +341,7 @@ fn put_fby(
     operand: u32,
     out: &mut Vec<u8>,
 ) -> Result<(), AllocError>
-    ensures { OnOk result (out.new.items ≡ out.old.items ++ (spaced_text (lit_token first) ++ (codes " fby " ++ place_name node.now operand))) }
+    ensures { OnOk result (out.new.items ≡ out.old.items ++ (literal_text first ++ (codes " fby " ++ place_name node.now operand))) }
 {
     put_literal(alloc, first, out)?;
     put_behind(alloc, node, b" fby ", operand, out)

@@ -1,5 +1,5 @@
 use Rattle.std.proofs.Common.{sym, map}
-use Rattle.lucy_grammar.specs.Print.{commas, printed_decl}
+use Rattle.lucy_grammar.specs.PrintTokens.{commas, printed_decl}
 use Rattle.lucy_grammar.proofs.PrintedText.{text_parens}
 use Rattle.lucy_grammar.proofs.Sheets.{behind, adds_as}
 use Rattle.lucy_grammar.proofs.decl.decls.Goals as goal

@@ -1,5 +1,5 @@
 use Rattle.std.proofs.Common.{sym, map}
-use Rattle.lucy_grammar.specs.Print.{commas, name_token}
+use Rattle.lucy_grammar.specs.PrintTokens.{commas, name_token}
 use Rattle.lucy_grammar.proofs.PrintedText.{text_parens}
 use Rattle.lucy_grammar.proofs.Sheets.{behind, adds_as}
 use Rattle.lucy_grammar.proofs.decl.names.Goals as goal

@@ -1,5 +1,5 @@
 use Rattle.std.proofs.Common.{ℕ, List, Option, drop, map}
-use Rattle.lucy_grammar.specs.Print.{printed_decl}
+use Rattle.lucy_grammar.specs.PrintTokens.{printed_decl}
 use Rattle.lucy_grammar.specs.Sheets.{Adds}
 use Rattle.lucy_grammar.proofs.PrintedText.{listed}
 use Rattle.lucy_grammar.proofs.decl.separated.Given as goal

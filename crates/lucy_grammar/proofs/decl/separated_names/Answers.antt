@@ -1,6 +1,6 @@
 use Rattle.std.proofs.Common.{◌≡◌, ◌+◌, [], ◌∷◌, map, drop, arith, ap, sym, ◌∙◌}
 use Rattle.std.proofs.lemmas.List.{drop_all, drop_more}
-use Rattle.lucy_grammar.specs.Print.{spaced_text, commas, name_token}
+use Rattle.lucy_grammar.specs.PrintTokens.{spaced_text, commas, name_token}
 use Rattle.lucy_grammar.proofs.PrintedText.{listed, text_commas, tight_names}
 use Rattle.lucy_grammar.proofs.Sheets.{behind, adds_as, nothing}
 use Rattle.lucy_grammar.proofs.decl.separated_names.Goals as goal

@@ -1,5 +1,5 @@
 use Rattle.std.proofs.Common.{ℕ, List, Option, drop, map}
-use Rattle.lucy_grammar.specs.Print.{name_token}
+use Rattle.lucy_grammar.specs.PrintTokens.{name_token}
 use Rattle.lucy_grammar.specs.Sheets.{Adds}
 use Rattle.lucy_grammar.proofs.PrintedText.{listed}
 use Rattle.lucy_grammar.proofs.decl.separated_names.Given as goal

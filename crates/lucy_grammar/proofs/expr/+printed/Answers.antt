@@ -1,14 +1,14 @@
-use Rattle.std.proofs.Common.{ℕ, Option, List, arith, drop, ◌≡◌, ◌+◌, [], ◌∷◌, sym, ap, ◌∙◌}
+use Rattle.std.proofs.Common.{ℕ, Option, arith, drop, ◌≡◌, ◌+◌, [], ◌∷◌, sym, ap, ◌∙◌}
 use Rattle.std.proofs.lemmas.List.{drop_all, drop_more}
 use Rattle.lucy_token.specs.declared.mark.Mark.TheVariants as mark
 use Rattle.lucy_tree.specs.Tree.{Tree, buffered}
 use Rattle.lucy_tree.specs.View.{tree_of, all_trees, expr_list}
-use Rattle.lucy_grammar.specs.Print.{spaced_text, the, commas, printed, all_printed}
+use Rattle.lucy_grammar.specs.PrintTokens.{spaced_text, name_token, word_token, commas, printed, all_printed}
 use Rattle.lucy_grammar.specs.Spans.{nowhere}
 use Rattle.lucy_grammar.proofs.PrintedText.{listed, text_parens, text_commas, tight_all, text_one, text_two, text_three, text_hosted, text_called, text_sampled, text_merged, text_followed, text_buffered, text_bounded}
 use Rattle.lucy_grammar.proofs.BoxedForms.{tree_host, tree_call, tree_sampled, tree_merged, tree_followed}
 use Rattle.lucy_grammar.proofs.Operands.{only_one, only_two, first_three}
-use Rattle.lucy_grammar.proofs.Sheets.{behind, adds_as, ended, nothing, led, between}
+use Rattle.lucy_grammar.proofs.Sheets.{behind, adds_as, ended, nothing, led, between, fronted}
 use Rattle.lucy_grammar.proofs.expr.+printed.Goals as goal
 
 pub enclosed-returns : goal.enclosed-returns
@@ -18,22 +18,27 @@ pub enclosed_all-returns : goal.enclosed_all-returns
 enclosed_all-returns t c = adds_as (behind c.mark.ensures (behind c.separated.ensures c.mark-2.ensures)) (sym (text_parens (commas (all_printed (all_trees c.args.list.now)))))
 
 pub expr-returns-in-When : goal.expr-returns-in-When
-expr-returns-in-When t c =
-    rw (c.in-When.is, tree_sampled _ _ _, text_sampled _ _ _, sym c.when_mark.ensures, sym c.deref.ensures)
-    (behind c.operand.ensures (between c.when_mark.result c.between.ensures (ended c.word.ensures)))
+expr-returns-in-When t c = rw (c.in-When.is, tree_sampled _ _ _, sym c.deref.ensures) c.sampled.ensures
+
+pub sampled-returns : goal.sampled-returns
+sampled-returns t c =
+    rw (text_sampled _ _ _, sym c.when_mark.ensures) (behind c.operand.ensures (between c.when_mark.result c.between.ensures (ended c.word.ensures)))
 
 pub expr-returns-in-Merge : goal.expr-returns-in-Merge
 expr-returns-in-Merge t c =
     rw (c.in-Merge.is, tree_merged _ _ _ _, text_merged _ _ _ _, sym c.deref-in-Merge.ensures, sym c.deref-in-Merge-2.ensures)
-    (led mark.Merge c.leading-in-Merge.ensures (behind c.word-in-Merge.ensures (behind c.blank-in-Merge.ensures (behind c.operand-in-Merge.ensures (behind c.blank-in-Merge-2.ensures (ended c.operand-in-Merge-2.ensures))))))
+    (fronted mark.Merge (spaced_text (word_token c.in-Merge.word)) c.merging.ensures (behind c.operand.ensures (behind c.blank.ensures (ended c.operand-in-Merge.ensures))))
 
 pub expr-returns-in-Fby : goal.expr-returns-in-Fby
-expr-returns-in-Fby t c =
-    rw (c.in-Fby.is, tree_followed _ _ _, text_followed _ _ _, sym c.deref-in-Fby.ensures) (behind c.lit-in-Fby.ensures (between mark.Fby c.between-in-Fby.ensures (ended c.operand-in-Fby.ensures)))
+expr-returns-in-Fby t c = rw (c.in-Fby.is, tree_followed _ _ _, sym c.deref-in-Fby.ensures) c.followed.ensures
+
+pub followed-returns : goal.followed-returns
+followed-returns t c =
+    adds_as (behind c.lit.ensures (between mark.Fby c.between.ensures (ended c.operand.ensures))) (sym (text_followed c.args.first (tree_of c.args.later.now) nowhere))
 
 pub expr-returns-in-Host : goal.expr-returns-in-Host
 expr-returns-in-Host t c =
-    rw (c.in-Host.is, tree_host _ _, text_hosted _ _, sym c.list-in-Host.ensures) (led mark.Host c.leading.ensures (behind c.name-in-Host.ensures (behind c.blank.ensures (ended c.enclosed_all.ensures))))
+    rw (c.in-Host.is, tree_host _ _, text_hosted _ _, sym c.list-in-Host.ensures) (fronted mark.Host (spaced_text (name_token c.in-Host.name)) c.hosted.ensures (ended c.enclosed_all.ensures))
 
 pub expr-returns-in-Call : goal.expr-returns-in-Call
 expr-returns-in-Call t c = rw (c.in-Call.is, tree_call _ _ _, sym (text_called c.in-Call.node c.in-Call.at (all_trees (expr_list c.in-Call.args))), sym c.list-in-Call.ensures) (behind c.called.ensures c.enclosed_all-in-Call.ensures)

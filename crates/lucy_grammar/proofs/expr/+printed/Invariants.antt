@@ -1,6 +1,6 @@
 use Rattle.std.proofs.Common.{ℕ, List, Option, drop}
 use Rattle.lucy_tree.specs.View.{all_trees}
-use Rattle.lucy_grammar.specs.Print.{all_printed}
+use Rattle.lucy_grammar.specs.PrintTokens.{all_printed}
 use Rattle.lucy_grammar.specs.Sheets.{Adds}
 use Rattle.lucy_grammar.proofs.PrintedText.{listed}
 use Rattle.lucy_grammar.proofs.expr.+printed.Given as goal

@@ -1,7 +1,7 @@
 use Rattle.std.proofs.Common.{map, ap, sym, ◌∙◌}
 use Rattle.lucy_token.specs.declared.mark.Mark.TheVariants as mark
 use Rattle.lucy_tree.specs.View.{def_tree}
-use Rattle.lucy_grammar.specs.Print.{spaced_text, printed_body}
+use Rattle.lucy_grammar.specs.PrintTokens.{spaced_text, printed_body}
 use Rattle.lucy_grammar.proofs.PrintedText.{text_body}
 use Rattle.lucy_grammar.proofs.Sheets.{behind, adds_as, between}
 use Rattle.lucy_grammar.proofs.program.body.Goals as goal

@@ -1,7 +1,7 @@
 use Rattle.std.proofs.Common.{ap, sym}
 use Rattle.lucy_token.specs.declared.mark.Mark.TheVariants as mark
 use Rattle.lucy_tree.specs.View.{def_tree}
-use Rattle.lucy_grammar.specs.Print.{spaced_text, printed_left}
+use Rattle.lucy_grammar.specs.PrintTokens.{spaced_text, printed_left}
 use Rattle.lucy_grammar.proofs.PrintedText.{text_def}
 use Rattle.lucy_grammar.proofs.Sheets.{behind, adds_as, ended, between}
 use Rattle.lucy_grammar.proofs.program.def.Goals as goal

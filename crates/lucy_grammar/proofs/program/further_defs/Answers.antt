@@ -3,7 +3,7 @@ use Rattle.std.proofs.lemmas.List.{drop_all, drop_more}
 use Rattle.lucy_token.specs.declared.mark.Mark.TheVariants as mark
 use Rattle.lucy_tree.specs.declared.program.Def.{Def}
 use Rattle.lucy_tree.specs.View.{def_tree}
-use Rattle.lucy_grammar.specs.Print.{spaced_text, more_defs}
+use Rattle.lucy_grammar.specs.PrintTokens.{spaced_text, more_defs}
 use Rattle.lucy_grammar.proofs.PrintedText.{text_more_defs}
 use Rattle.lucy_grammar.proofs.Sheets.{behind, adds_as, nothing, led}
 use Rattle.lucy_grammar.proofs.program.further_defs.Goals as goal

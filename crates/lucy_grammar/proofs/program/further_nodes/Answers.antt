@@ -2,7 +2,7 @@ use Rattle.std.proofs.Common.{◌≡◌, ◌+◌, [], ◌∷◌, ℕ, List, arit
 use Rattle.std.proofs.lemmas.List.{drop_all, drop_more}
 use Rattle.lucy_tree.specs.declared.program.Node.{Node}
 use Rattle.lucy_tree.specs.View.{node_tree}
-use Rattle.lucy_grammar.specs.Print.{spaced_text, more_nodes}
+use Rattle.lucy_grammar.specs.PrintTokens.{spaced_text, more_nodes}
 use Rattle.lucy_grammar.proofs.PrintedText.{text_more_nodes}
 use Rattle.lucy_grammar.proofs.Sheets.{behind, adds_as, nothing}
 use Rattle.lucy_grammar.proofs.program.further_nodes.Goals as goal

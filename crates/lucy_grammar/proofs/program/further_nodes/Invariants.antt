@@ -1,6 +1,6 @@
 use Rattle.std.proofs.Common.{ℕ, List, Option, drop, map}
 use Rattle.lucy_tree.specs.View.{node_tree}
-use Rattle.lucy_grammar.specs.Print.{spaced_text, more_nodes}
+use Rattle.lucy_grammar.specs.PrintTokens.{spaced_text, more_nodes}
 use Rattle.lucy_grammar.specs.Sheets.{Adds}
 use Rattle.lucy_grammar.proofs.program.further_nodes.Given as goal
 

@@ -1,7 +1,7 @@
 use Rattle.std.proofs.Common.{map, ap, sym}
 use Rattle.lucy_token.specs.declared.mark.Mark.TheVariants as mark
 use Rattle.lucy_tree.specs.View.{def_tree, node_tree}
-use Rattle.lucy_grammar.specs.Print.{spaced_text, parens, commas, printed_decl, name_token, printed_body}
+use Rattle.lucy_grammar.specs.PrintTokens.{spaced_text, parens, commas, printed_decl, name_token, printed_body}
 use Rattle.lucy_grammar.proofs.PrintedText.{text_node}
 use Rattle.lucy_grammar.proofs.Sheets.{behind, adds_as, ended, between}
 use Rattle.lucy_grammar.proofs.program.node.Goals as goal

@@ -1,6 +1,6 @@
 use Rattle.std.proofs.Common.{map, ap, sym, ◌∙◌}
 use Rattle.lucy_tree.specs.View.{node_tree}
-use Rattle.lucy_grammar.specs.Print.{spaced_text, printed_node, printed_program, more_nodes}
+use Rattle.lucy_grammar.specs.PrintTokens.{spaced_text, printed_node, printed_program, more_nodes}
 use Rattle.lucy_grammar.proofs.PrintedText.{text-append}
 use Rattle.lucy_grammar.proofs.Sheets.{behind, adds_as}
 use Rattle.lucy_grammar.proofs.program.nodes.Goals as goal
