@@ -1,3 +1,4 @@
 mod InterleavingLaws
 mod WholenessLaws
 mod RunnerLaws
+mod RingRows

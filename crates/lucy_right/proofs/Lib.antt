@@ -8,3 +8,5 @@ mod RefusedLaws
 mod OneLaws
 mod Rows
 mod LineRows
+mod LaterRows
+mod EndRows
