@@ -10,3 +10,4 @@ mod Rows
 mod LineRows
 mod LaterRows
 mod EndRows
+mod RightRows
