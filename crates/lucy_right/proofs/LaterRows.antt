@@ -36,7 +36,7 @@ use Rattle.lucy_need.specs.Meeting.{assigned}
 use Rattle.lucy_clock.specs.declared.node_clock.NodeClock.{NodeClock}
 use Rattle.lucy_check.proofs.OneVerdict.{one_size}
 use Rattle.lucy_flat.specs.Clocked.{IsClock, AreClocked}
-use Rattle.lucy_right.specs.Places.{AreNodesOf}
+use Rattle.lucy_naming.specs.Places.{AreNodesOf}
 use Rattle.lucy_right.specs.Right.{Meaning, StandsFor}
 use Rattle.lucy_right.proofs.NodesLaws.{are_placed}
 

@@ -33,7 +33,8 @@ use Rattle.lucy_clock.specs.WellClocked.{KeepsRule, KeepsBound, IsWellClocked}
 use Rattle.lucy_clock.specs.NodeClocks.{AreSizes, signatures}
 use Rattle.lucy_kahn.specs.Items.{SpotItem, IsSpotWalk, IsCausalProgram}
 use Rattle.lucy_flat.specs.Clocked.{IsClock, AreClocked}
-use Rattle.lucy_right.specs.Places.{IsWellNamed, AreNodesOf}
+use Rattle.lucy_naming.specs.Places.{AreNodesOf}
+use Rattle.lucy_right.specs.Names.{IsWellNamed}
 use Rattle.lucy_right.proofs.NodesLaws.{placed_are}
 use Rattle.lucy_right.proofs.LaterRows.{only, odd, even, later, node, words, clock, meaning, x_place, y_place, b_place, nm, typed, counts, lead, size_one, shorts, word_at}
 use Rattle.lucy_right.proofs.EndRows.{x_input, y_output, input, due, printings, said, splits, suffices, IsRight}
