@@ -165,7 +165,7 @@ module _ (kinds : List HostKind) (a : Accepted) (given : Option ℕ) where
   run_unbegun block s o = ([], Unread, read_nothing s, record { asked = inl refl; output = ([], inl refl, unwritten o); in_order = λ fault. cc })
 
   -- an output where nothing was read yet
-  allowed_not_yet : (lines : List ℕ) × LinesAllow kinds a given [] Unread (heading a ++ lines)
+  pub allowed_not_yet : (lines : List ℕ) × LinesAllow kinds a given [] Unread (heading a ++ lines)
   allowed_not_yet =
       let (lists, fed) = some_lines a.inputs.items [] Unread (λ failed. cc) in
       let (horizon, is) = some_horizon (input_words a) lists (most_instants given) in

@@ -50,9 +50,13 @@ pub record FailsInBlock (kinds : List HostKind) (a : Accepted) (given : Option �
   pub near : aim ≤ done + block
   pub needed : IsNeededFor (input_words a) aim a.inputs.items taken
 
+-- a write of the heading failed, and nothing was read
+abbrev pub FailsUnread : Accepted → ReadStop → (was now : SeenSink) → Type 0
+FailsUnread a stop was now = Fails was now (heading a) × (stop ≡ Unread)
+
 -- where a write failed nothing more was read: nothing at all where it was a write of the heading, and else no more than its block needs
 abbrev pub FailsInOrder : List HostKind → Accepted → (given : Option ℕ) (block : ℕ) (taken : List ℕ) → ReadStop → (was now : SeenSink) → Type 0
-FailsInOrder kinds a given block taken stop was now = (Fails was now (heading a) × (stop ≡ Unread)) ⊎ FailsInBlock kinds a given block taken stop was now
+FailsInOrder kinds a given block taken stop was now = FailsUnread a stop was now ⊎ FailsInBlock kinds a given block taken stop was now
 
 -- how `run` ends, by the bytes taken and how reading stopped
 pub record EndsRun (kinds : List HostKind) (a : Accepted) (given : Option ℕ) (block : ℕ) (taken : List ℕ) (stop : ReadStop) (before after : SeenSink) (end : Ending) : Type 0 where

@@ -1,15 +1,24 @@
--- What an engine plays, and what it answers.
-use Rattle.std.specs.Prelude.{ℕ, ℤ, ◌≤◌, ◌≡◌, List, length, Result, IfOk}
+-- What an engine plays, what it is asked for and what it answers, and how a run ends that has one play.
+use Rattle.std.specs.Prelude.{ℕ, ℤ, ◌≤◌, ◌≡◌, ◌⊎◌, List, [], ◌∷◌, ◌++◌, length, Option, Result, IfOk}
+use Rattle.std.specs.Option.{option_map}
 use Rattle.lucy_word.specs.Limits.{limit_number}
 use Rattle.lucy_word.specs.declared.error.OutOfMemory.{OutOfMemory}
 use Rattle.lucy_word.specs.declared.limit.Limit.TheVariants as limit
+use Rattle.lucy_host.specs.declared.kind.HostKind.{HostKind}
 use Rattle.lucy_host.specs.Operators.{Operator, kinds_of}
+use Rattle.lucy_text.specs.Outside.{SeenSink, Writes, Fails}
+use Rattle.lucy_text.specs.Sources.{ReadStop}
+use Rattle.lucy_lines.specs.declared.reader.TextFault.{TextFault}
 use Rattle.lucy_kahn.specs.Spots.{main_of}
 use Rattle.lucy_kahn.specs.Horizons.{Suffice}
 use Rattle.lucy_kahn.specs.Turns.{params_in}
 use Rattle.lucy_runner.specs.Views.{most_workers}
 use Rattle.lucy_results.specs.Streams.{param_words, main_streams}
 use Rattle.lucy_program.specs.declared.accepted.Accepted.{Accepted}
+use Rattle.lucy_run.specs.declared.ending.Ending.{Ending}
+use Rattle.lucy_run.specs.declared.ending.Ending.TheVariants as ending
+use Rattle.lucy_run.specs.Owes.{heading, IsMainFed, OwesRun, LinesAllow}
+use Rattle.lucy_run.specs.Ends.{EndsWith, FailsUnread}
 use Rattle.lucy_run.specs.Calls.{WasAccepted}
 
 -- a program that is accepted for these operators can be played on these inputs up to a horizon, by so many workers
@@ -26,3 +35,41 @@ abbrev pub IsPlayedTo : (operators : List Operator) (a : Accepted) (inputs : Lis
     Result (List (List ℤ)) OutOfMemory → Type 0
 IsPlayedTo operators a inputs instants answer = IfOk answer (λ lists. lists ≡ main_streams (kinds_of operators) inputs a.placed.nodes
     a.clocks.items instants)
+
+-- what an engine is asked for once: to play up to an instant, by so many workers
+pub record Asked : Type 0 where
+  pub instants : ℕ
+  pub workers : ℕ
+
+-- what it was asked for so far and then this, where it tells that
+abbrev pub asked_more : Asked → Option (List Asked) → Option (List Asked)
+asked_more one before = option_map (λ all. all ++ one ∷ []) before
+
+-- it was asked once, for something of which this holds; or for nothing, which may be where that holds
+abbrev pub AsksOnce : (Asks : Asked → Type 0) (MayNot : Type 0) → (before after : Option (List Asked)) → Type 0
+AsksOnce Asks MayNot before after = ((one : Asked) × Asks one × (after ≡ asked_more one before)) ⊎ (MayNot × (after ≡ before))
+
+-- it is asked to play what main is fed up to its horizon, by so many workers
+pub record AsksFor (a : Accepted) (given : Option ℕ) (workers : ℕ) (taken : List ℕ) (stop : ReadStop) (one : Asked) : Type 0 where
+  pub lists : List (List ℤ)
+  pub fault : Option TextFault
+  pub fed : IsMainFed a given taken stop lists fault one.instants
+  pub workers_are : one.workers ≡ workers
+
+-- Where a write failed nothing more was done: where it was a write of the heading, nothing was read and the engine was asked for nothing;
+-- else the heading was written, and a write behind it failed.
+abbrev pub FailsInPiece : Accepted → ReadStop → (asked asked' : Option (List Asked)) → (was now : SeenSink) → Type 0
+FailsInPiece a stop asked asked' was now =
+    (FailsUnread a stop was now × (asked' ≡ asked))
+    ⊎ ((between : SeenSink) × (rest : List ℕ) × Writes was between (heading a) × Fails between now rest)
+
+-- a write failed, or memory ran out
+abbrev pub HasBroken : Ending → Type 0
+HasBroken end = (end ≡ ending.WriteFault) ⊎ (end ≡ ending.OutOfMemory)
+
+-- how `run_by` ends, by the bytes taken, how reading stopped, and what its engine was asked for before and after
+pub record EndsRunBy (kinds : List HostKind) (a : Accepted) (given : Option ℕ) (workers : ℕ) (taken : List ℕ) (stop : ReadStop)
+    (asked asked' : Option (List Asked)) (before after : SeenSink) (end : Ending) : Type 0 where
+  pub output : EndsWith (OwesRun kinds a given taken stop) (LinesAllow kinds a given taken stop) before after end
+  pub in_order : end ≡ ending.WriteFault → FailsInPiece a stop asked asked' before after
+  pub asks : AsksOnce (AsksFor a given workers taken stop) (HasBroken end) asked asked'

@@ -1,8 +1,8 @@
 // What plays an accepted program.
-ghost use Rattle.std.specs.Prelude.{◌≡◌, ℕ};
+ghost use Rattle.std.specs.Prelude.{◌≡◌, ℕ, List, Option, None};
 ghost use Rattle.lucy_host.specs.Host.{lent};
 ghost use Rattle.lucy_host.specs.declared.host.Host.{Host};
-ghost use Rattle.lucy_run.specs.Engines.{CanBePlayed, IsPlayedTo};
+ghost use Rattle.lucy_run.specs.Engines.{Asked, CanBePlayed, IsPlayedTo, asked_more};
 
 use lucy_host::{Host, Inputs};
 use lucy_program::Accepted;
@@ -13,6 +13,9 @@ use std::alloc::Global;
 pub trait Engine<F> {
     /// That it plays by this host.
     ghost plays: { Self → Host F → Type 0 };
+
+    /// What it was asked for so far, in turn, where it tells that.
+    ghost asked: { Self → Option (List Asked) };
 
     /// The streams of main's results up to a horizon of at most 1,048,576 instants, by 1 to 64 workers: a list for each result, in
     /// order (Kahn 1974). The program is one that is accepted for the operators of the host. There is an input for each parameter of
@@ -28,10 +31,12 @@ pub trait Engine<F> {
     ) -> Result<Inputs, OutOfMemory>
         requires plays { plays self.old host.now }
         requires can { CanBePlayed (lent host.now) accepted.now inputs instants workers }
-        ensures { IsPlayedTo (lent host.now) accepted.now inputs instants result };
+        ensures played { IsPlayedTo (lent host.now) accepted.now inputs instants result }
+        ensures tells { asked self.new ≡ asked_more (record { instants = instants; workers = workers }) (asked self.old) };
 }
 
-/// An engine that is a closure. It plays by a host if the closure may be called with all that can be played, and answers its streams.
+/// An engine that is a closure. It plays by a host if the closure may be called with all that can be played, and answers its streams. It
+/// tells nothing of what it was asked for.
 #[derive(Drop)]
 pub struct ClosureEngine<C> {
     pub call: C,
@@ -45,6 +50,8 @@ impl<F, C: Fn(Global, &Accepted, &Host<F>, Inputs, u64, u32) -> Result<Inputs, O
         C.pre engine.call alloc accepted lender inputs instants workers
         × ((answer : _) → C.post engine.call alloc accepted lender inputs instants workers answer →
         IsPlayedTo (lent host) accepted.now inputs instants answer) };
+
+    ghost asked = { λ _. None };
 
     fn play(
         &mut self,

@@ -1,15 +1,14 @@
 // The command `run` on an accepted program, by an engine that is handed in.
-ghost use Rattle.std.specs.Prelude.{◌≡◌, ◌≢◌, ◌≤◌, [], None, length, IfOk};
+ghost use Rattle.std.specs.Prelude.{◌≡◌, ◌≢◌, ◌≤◌, [], None, length, IfOk, OnOk};
 ghost use Rattle.lucy_host.specs.Host.{lent};
 ghost use Rattle.lucy_host.specs.Operators.{kinds_of};
 ghost use Rattle.lucy_kahn.specs.Spots.{main_of};
 ghost use Rattle.lucy_kahn.specs.Turns.{params_in};
 ghost use Rattle.lucy_lines.specs.Outputs.{output_text};
 ghost use Rattle.lucy_run.specs.Paces.{AreInstants, AreWorkers};
-ghost use Rattle.lucy_run.specs.Owes.{OwesRun, LinesAllow};
-ghost use Rattle.lucy_run.specs.Ends.{EndsWith};
 ghost use Rattle.lucy_run.specs.Calls.{WasAccepted, ReadsAndEnds};
-ghost use Rattle.lucy_run.specs.Steps.{HasPlayed, LeavesWritten};
+ghost use Rattle.lucy_run.specs.Engines.{AsksOnce, EndsRunBy};
+ghost use Rattle.lucy_run.specs.Steps.{HasPlayed, AsksToPlay, LeavesWritten};
 
 use crate::ending::Ending;
 use crate::engine::Engine;
@@ -69,7 +68,8 @@ fn play_by<N: Engine<F>, F>(
     requires inputs { params_in (main_of accepted.now.placed.nodes) ≡ length feed.items }
     requires few { AreInstants given }
     requires workers { AreWorkers workers }
-    ensures { IfOk result (λ played. HasPlayed (kinds_of (lent host.now)) accepted.now given feed.items feed.stop played) }
+    ensures played { IfOk result (λ played. HasPlayed (kinds_of (lent host.now)) accepted.now given feed.items feed.stop played) }
+    ensures asks { AsksOnce (AsksToPlay accepted.now given feed.items workers) (OnOk result ⊥) (N.asked engine.old) (N.asked engine.new) }
 {
     accepted_programs_are_clocked();
     let Feed { items, stop } = feed;
@@ -124,8 +124,8 @@ fn play_accepted<N: Engine<F>, F, I: Source, O: Sink>(
     requires workers { AreWorkers workers }
     requires given { accepted.now.inputs.items ≡ [] → instants ≢ None }
     ensures ends { ReadsAndEnds accepted.now.inputs.items (I.seen source.old) (I.seen source.new)
-        (λ taken stop. EndsWith (OwesRun (kinds_of (lent host.now)) accepted.now instants taken stop)
-        (LinesAllow (kinds_of (lent host.now)) accepted.now instants taken stop) (O.seen out.old) (O.seen out.new) result) }
+        (λ taken stop. EndsRunBy (kinds_of (lent host.now)) accepted.now instants workers taken stop
+        (N.asked engine.old) (N.asked engine.new) (O.seen out.old) (O.seen out.new) result) }
     ensures unread { accepted.now.inputs.items ≡ [] → source.new ≡ source.old }
     ensures source_count { (I.seen source.old).faults ≤ (I.seen source.new).faults }
     ensures out_count { (O.seen out.old).faults ≤ (O.seen out.new).faults }
@@ -152,7 +152,8 @@ fn play_accepted<N: Engine<F>, F, I: Source, O: Sink>(
 /// then the input is read to its end or its first fault, then the engine plays the program by so many workers up to the horizon, and
 /// then the lines of its results are written. A main without inputs reads nothing. It returns if the engine does.
 ///
-/// After a failed write nothing more is written, and nothing was read where it was a write of the report or of the line `run`.
+/// After a failed write nothing more is written, and where it was a write of the report or of the line `run`, nothing was read and the
+/// engine was asked for nothing. It is asked at most once, for these workers and the horizon of what main is fed.
 pub fn run_by<N: Engine<F>, F, I: Source, O: Sink>(
     alloc: Global,
     accepted: Accepted,
@@ -169,8 +170,8 @@ pub fn run_by<N: Engine<F>, F, I: Source, O: Sink>(
     requires workers { AreWorkers workers }
     requires given { accepted.inputs.items ≡ [] → instants ≢ None }
     ensures ends { ReadsAndEnds accepted.inputs.items (I.seen source.old) (I.seen source.new)
-        (λ taken stop. EndsWith (OwesRun (kinds_of (lent host.now)) accepted instants taken stop)
-        (LinesAllow (kinds_of (lent host.now)) accepted instants taken stop) (O.seen out.old) (O.seen out.new) result) }
+        (λ taken stop. EndsRunBy (kinds_of (lent host.now)) accepted instants workers taken stop
+        (N.asked engine.old) (N.asked engine.new) (O.seen out.old) (O.seen out.new) result) }
     ensures unread { accepted.inputs.items ≡ [] → source.new ≡ source.old }
     ensures source_count { (I.seen source.old).faults ≤ (I.seen source.new).faults }
     ensures out_count { (O.seen out.old).faults ≤ (O.seen out.new).faults }

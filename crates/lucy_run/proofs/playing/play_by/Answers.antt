@@ -1,4 +1,4 @@
-use Rattle.std.proofs.Common.{List, length, ap, sym, ◌∙◌, subst, arith}
+use Rattle.std.proofs.Common.{List, length, ap, sym, refl, ◌∙◌, subst, inl, arith}
 use Rattle.lucy_word.specs.Bits.{Bits}
 use Rattle.lucy_host.specs.Host.{lent}
 use Rattle.lucy_clock.specs.declared.node_clock.NodeClock.{NodeClock}
@@ -32,17 +32,33 @@ play-requires-clause-can g c =
       lists = c.requires.inputs;
       suffice = subst (λ (u : List Bits). Suffice u c.args.feed.items c.in_ok-extent.extent.horizon) same is.suffice;
       early = omega (arith, is.within, few_most c.args.given c.requires.few);
-      some_worker = c.requires.workers.0;
-      few_workers = c.requires.workers.1;
+      some_worker = omega (arith, c.requires.workers.0);
+      few_workers = omega (arith, c.requires.workers.0, c.requires.workers.1);
     }
 
-pub returns : goal.returns
-returns g c =
+pub returns-in_err-streams-clause-asks : goal.returns-in_err-streams-clause-asks
+returns-in_err-streams-clause-asks g c =
+    let a = c.args.accepted.now in
+    let same = c.param_words-words.ensures.words ∙ ap (λ (cs : List NodeClock). param_words a.placed.nodes cs) c.deref.ensures.value in
+    let extent = c.in_ok-extent.extent in
+    let horizon_is = subst (λ (u : List Bits). IsHorizonOf u c.args.given c.args.feed.items extent.horizon) same c.in_ok-extent.ensures.horizon in
+    inl (record { instants = extent.horizon; workers = c.args.workers }, (horizon_is, refl), c.play.ensures.tells)
+
+pub returns-clause-asks : goal.returns-clause-asks
+returns-clause-asks g c =
+    let a = c.args.accepted.now in
+    let same = c.param_words-words.ensures.words ∙ ap (λ (cs : List NodeClock). param_words a.placed.nodes cs) c.deref.ensures.value in
+    let extent = c.in_ok-extent.extent in
+    let horizon_is = subst (λ (u : List Bits). IsHorizonOf u c.args.given c.args.feed.items extent.horizon) same c.in_ok-extent.ensures.horizon in
+    inl (record { instants = extent.horizon; workers = c.args.workers }, (horizon_is, refl), c.play.ensures.tells)
+
+pub returns-clause-played : goal.returns-clause-played
+returns-clause-played g c =
     let a = c.args.accepted.now in
     let same = c.param_words-words.ensures.words ∙ ap (λ (cs : List NodeClock). param_words a.placed.nodes cs) c.deref.ensures.value in
     let extent = c.in_ok-extent.extent in
     record {
       horizon_is = subst (λ (u : List Bits). IsHorizonOf u c.args.given c.args.feed.items extent.horizon) same c.in_ok-extent.ensures.horizon;
-      streams_are = c.in_ok-streams.ensures;
+      streams_are = c.in_ok-streams.ensures.played;
       ends = subst (λ (u : List Bits). EndsFor u c.args.given c.args.feed.items c.args.feed.stop extent.ending) same c.in_ok-extent.ensures.ending;
     }
