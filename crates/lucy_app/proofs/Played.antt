@@ -1,59 +1,110 @@
 -- How a call ends that has an engine play.
-use Rattle.std.proofs.Common.{ℕ, ◌≡◌, List, [], Option, Some, None, refl, subst, inl, inr}
-use Rattle.lucy_host.specs.Operators.{kinds_of}
-use Rattle.lucy_text.specs.Outside.{SeenSink}
+use Rattle.std.proofs.Common.{ℕ, ◌<◌, ◌≡◌, List, [], Option, Some, None, Result, refl, subst, inl, inr, arith}
+use Rattle.std.specs.Prelude.{◌≢◌}
+use Rattle.lucy_word.specs.Limits.{limit_number}
+use Rattle.lucy_word.specs.declared.limit.Limit.TheVariants as limit
+use Rattle.lucy_host.specs.declared.kind.HostKind.{HostKind}
+use Rattle.lucy_host.specs.Operators.{Operator, kinds_of}
+use Rattle.lucy_text.specs.declared.shelf.ShelfError.{ShelfError}
+use Rattle.lucy_text.specs.Outside.{SeenSource, SeenSink}
+use Rattle.lucy_text.specs.Sources.{ReadStop, Read}
+use Rattle.lucy_lines.specs.Feeding.{IsAsked}
+use Rattle.lucy_program.specs.declared.accepted.Accepted.{Accepted}
+use Rattle.lucy_program.specs.declared.options.Options.{Options}
 use Rattle.lucy_front.specs.Refusals.{memory_line}
+use Rattle.lucy_run.specs.declared.ending.Ending.{Ending}
 use Rattle.lucy_run.specs.Owes.{OwesRun, LinesAllow}
-use Rattle.lucy_run.specs.Ends.{IsFrontOf}
+use Rattle.lucy_run.specs.Engines.{Asked, AsksOnce, AsksFor, FailsInPiece, HasBroken, EndsRunBy}
+use Rattle.lucy_run.proofs.FedLaws.{owed_allowed}
 use Rattle.lucy_command.specs.Commands.{ProgramWords, Command, Run}
-use Rattle.lucy_app.specs.Commands.{inferring_options}
+use Rattle.lucy_app.specs.Commands.{inferring_options, HasText}
 use Rattle.lucy_app.specs.World.{World, Given}
-use Rattle.lucy_app.specs.Answers.{Answer, no_command, out_of_memory}
+use Rattle.lucy_app.specs.Answers.{no_command, out_of_memory}
+use Rattle.lucy_app.specs.Endings.{write_fault_line}
 use Rattle.lucy_app.specs.Owes.{Owes, OwesOutput}
-use Rattle.lucy_app.specs.Ends.{Tells, EndsBy, MayStand, Ends}
+use Rattle.lucy_app.specs.Ends.{Tells, TellsEnding, EndsBy, MayStand, Ends}
 use Rattle.lucy_app.specs.Complete.{IsFaultless}
-use Rattle.lucy_app.specs.Engines.{EndsPlaying}
-use Rattle.lucy_app.specs.Outcomes.{EndsRunning, OfProgram}
+use Rattle.lucy_app.specs.Running.{IsRunnable, OfProgram}
+use Rattle.lucy_app.specs.Engines.{StopsInPiece, EndsPlaying}
+use Rattle.lucy_app.specs.Outcomes.{EndsRunning}
 use Rattle.lucy_app.proofs.Sinks.{declines}
+use Rattle.lucy_app.proofs.Runs.{ends_run}
+use Rattle.lucy_app.proofs.RunEnds.{ReadsSo, of_program, reads_so}
 
--- where an output may fail in some order, it may fail
-without_order : (Owed : Answer → Type 0) (Stands MayFail : List ℕ → Type 0) (Order : Type 0) (out out' err err' : SeenSink) (status : ℕ) →
-    EndsBy Owed Stands (λ output. MayFail output × Order) out out' err err' status → EndsBy Owed Stands MayFail out out' err err' status
-without_order Owed Stands MayFail Order out out' err err' status (inl answered) = inl answered
-without_order Owed Stands MayFail Order out out' err err' status (inr (output, may, breaks)) = inr (output, may.0, breaks)
+-- what was told with a status but 0 ends so, or with that of a write fault
+told_apart : (told : ℕ) (lines : List ℕ) (err err' : SeenSink) (status : ℕ) → 0 < told → Tells told lines err err' status → status ≢ 0
+told_apart told lines err err' status some (inl is) = λ done. omega (arith, is.0, done, some)
+told_apart told lines err err' status some (inr is) = λ done. omega (arith, is.0, done)
+
+-- a run that broke off isn't done
+broken_status : (end : Ending) (err err' : SeenSink) (status : ℕ) → HasBroken end → TellsEnding end err err' status → status ≢ 0
+broken_status end err err' status (inl is) told =
+    let P : Ending → Type 0 = λ e. TellsEnding e err err' status in
+    told_apart 5 write_fault_line err err' status (omega arith) (subst P is told)
+broken_status end err err' status (inr is) told =
+    let P : Ending → Type 0 = λ e. TellsEnding e err err' status in
+    told_apart 7 memory_line err err' status (omega arith) (subst P is told)
+
+-- an engine had a program played that can be run
+module _ (kinds : List HostKind) (ops : List Operator) (o : Options) (instants : Option ℕ) (workers : ℕ) (fetched : List (Result (List ℕ) ShelfError))
+    (a : Accepted) (runnable : HasText fetched (λ text. IsRunnable ops o instants text a)) (asked asked' : Option (List Asked)) where
+  -- what it was asked for
+  asks_of : (taken : List ℕ) (stop : ReadStop) (P Q : Type 0) → (P → Q) → AsksOnce (AsksFor a instants workers taken stop) P asked asked' →
+      AsksOnce (λ one. OfProgram (λ b. AsksFor b instants workers taken stop one) ops o fetched) Q asked asked'
+  asks_of taken stop P Q may (inl (one, is, e)) =
+      inl (one, of_program ops o instants fetched a runnable (λ b. AsksFor b instants workers taken stop one) is, e)
+  asks_of taken stop P Q may (inr (p, e)) = inr (may p, e)
+
+  -- how that ended
+  pub played : (before after : SeenSource) (out out' err err' : SeenSink) (status : ℕ) (end : Ending) → (a.inputs.items ≡ [] → after ≡ before) →
+      (taken : List ℕ) (stop : ReadStop) → Read (limit_number limit.Input) before after taken stop → IsAsked a.inputs.items taken →
+      EndsRunBy kinds a instants workers taken stop asked asked' out out' end → TellsEnding end err err' status →
+      (others : List ℕ) × (halt : ReadStop) × Read (limit_number limit.Input) before after others halt × ReadsSo ops o fetched before after others
+      × AsksOnce (λ one. OfProgram (λ b. AsksFor b instants workers others halt one) ops o fetched) (status ≢ 0) asked asked'
+      × EndsRunning (λ b. OwesRun kinds b instants others halt) (λ b. LinesAllow kinds b instants others halt)
+      (OfProgram (λ b. FailsInPiece b halt asked asked' out out') ops o fetched) ops o instants halt fetched out out' err err' status
+  played before after out out' err err' status end alone taken stop read bytes left told = (
+    taken,
+    stop,
+    read,
+    reads_so ops o instants fetched a runnable before after taken alone bytes,
+    asks_of taken stop (HasBroken end) (status ≢ 0) (λ broken. broken_status end err err' status broken told) left.asks,
+    ends_run (λ b. OwesRun kinds b instants taken stop) (λ b. LinesAllow kinds b instants taken stop) _ ops o instants fetched stop a runnable
+        (owed_allowed kinds a instants taken stop) end out out' err err' status left.output
+        (λ fault. of_program ops o instants fetched a runnable (λ b. FailsInPiece b stop asked asked' out out') (left.in_order fault)) told,
+  )
 
 -- a run in one piece that has met this ends so
-pub played_met : (words : ProgramWords) (workers : ℕ) (block : Option ℕ) (given : Given) (out out' err err' : SeenSink) (status : ℕ) →
+pub played_met : (words : ProgramWords) (workers : ℕ) (block : Option ℕ) (given : Given) (asked asked' : Option (List Asked)) (out out' err err' : SeenSink) (status : ℕ) →
     EndsRunning (λ a. OwesRun (kinds_of given.operators) a words.instants given.taken given.stop)
     (λ a. LinesAllow (kinds_of given.operators) a words.instants given.taken given.stop)
-    (OfProgram (λ a. Unit {0}) given.operators (inferring_options words.scale words.lead) given.fetched)
+    (OfProgram (λ a. FailsInPiece a given.stop asked asked' out out') given.operators (inferring_options words.scale words.lead) given.fetched)
     given.operators (inferring_options words.scale words.lead) words.instants given.stop given.fetched
-    out out' err err' status → EndsBy (Owes (Run words workers block) given) (MayStand (Run words workers block) given) (OwesOutput (Run words workers block) given) out out' err
-    err' status
-played_met words workers block given out out' err err' status ends =
-    without_order (Owes (Run words workers block) given) (IsFrontOf (OwesOutput (Run words workers block) given)) (OwesOutput (Run words workers block) given) _ out out'
-    err err' status ends
+    out out' err err' status →
+    EndsBy (Owes (Run words workers block) given) (MayStand (Run words workers block) given)
+    (λ output. OwesOutput (Run words workers block) given output × StopsInPiece (Run words workers block) given asked asked' out out') out out' err err' status
+played_met words workers block given asked asked' out out' err err' status ends = ends
 
 -- words that name none
-pub plays_none : (found : Option Command) (before after : World) (status : ℕ) → None ≡ found → after.shelf ≡ before.shelf →
-    after.source ≡ before.source → after.out ≡ before.out →
-    Tells 2 no_command.err before.err after.err status → EndsPlaying found before after status
-plays_none found before after status is shelf source out told =
-    let P : Option Command → Type 0 = λ o. EndsPlaying o before after status in
-    subst P is (inl (declines no_command before after status refl shelf source out told))
+pub plays_none : (found : Option Command) (asked : Option (List Asked)) (before after : World) (status : ℕ) → None ≡ found →
+    after.shelf ≡ before.shelf → after.source ≡ before.source → after.out ≡ before.out →
+    Tells 2 no_command.err before.err after.err status → EndsPlaying found asked asked before after status
+plays_none found asked before after status is shelf source out told =
+    let P : Option Command → Type 0 = λ o. EndsPlaying o asked asked before after status in
+    subst P is (refl, inl (declines no_command before after status refl shelf source out told))
 
 -- words that memory is too short to read
-pub plays_short : (found : Option Command) (before after : World) (status : ℕ) → after.shelf ≡ before.shelf →
+pub plays_short : (found : Option Command) (asked : Option (List Asked)) (before after : World) (status : ℕ) → after.shelf ≡ before.shelf →
     after.source ≡ before.source → after.out ≡ before.out →
-    Tells 7 memory_line before.err after.err status → EndsPlaying found before after status
-plays_short None before after status shelf source out told = inr (declines (out_of_memory []) before after status refl shelf source out
-    told)
-plays_short (Some command) before after status shelf source out told = inr (declines (out_of_memory []) before after status refl shelf
-    source out told)
+    Tells 7 memory_line before.err after.err status → EndsPlaying found asked asked before after status
+plays_short None asked before after status shelf source out told =
+    (refl, inr (declines (out_of_memory []) before after status refl shelf source out told))
+plays_short (Some command) asked before after status shelf source out told =
+    inr (refl, declines (out_of_memory []) before after status refl shelf source out told)
 
 -- where no count has risen, a run in one piece ends as `run` does
-pub plays_as_run : (command : Command) (before after : World) (status : ℕ) → EndsPlaying (Some command) before after status →
-    IsFaultless before after → Ends (Some command) before after status
-plays_as_run command before after status (inl (given, met, inl answered)) none = inl (given, met, inl answered)
-plays_as_run command before after status (inl (given, met, inr (output, may, breaks))) none = absurd (none.out breaks.failed.faults)
-plays_as_run command before after status (inr declined) none = inr declined
+pub plays_as_run : (command : Command) (asked asked' : Option (List Asked)) (before after : World) (status : ℕ) →
+    EndsPlaying (Some command) asked asked' before after status → IsFaultless before after → Ends (Some command) before after status
+plays_as_run command asked asked' before after status (inl (given, met, asks, inl answered)) none = inl (given, met, inl answered)
+plays_as_run command asked asked' before after status (inl (given, met, asks, inr (output, may, breaks))) none = absurd (none.out breaks.failed.faults)
+plays_as_run command asked asked' before after status (inr (same, declined)) none = inr declined

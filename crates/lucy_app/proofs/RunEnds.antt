@@ -39,15 +39,38 @@ some_or_none (input ∷ inputs) = inr (λ e. cc e)
 abbrev pub ReadsSo : List Operator → Options → List (Result (List ℕ) ShelfError) → (before after : SeenSource) (taken : List ℕ) → Type 0
 ReadsSo ops o fetched before after taken = (after ≡ before) ⊎ TakesInput ops o fetched taken
 
-module _ (Owed : List ℕ → ReadStop → Accepted → List ℕ → Ending → Type 0) (MayBreak : List ℕ → ReadStop → Accepted → List ℕ → Type 0) (Order : List ℕ → ReadStop → Accepted → (out out' : SeenSink) → Type 0)
-    (may : (taken : List ℕ) (stop : ReadStop) (a : Accepted) (output : List ℕ) (end : Ending) → Owed taken stop a output end → MayBreak taken stop a output) (ops lends : List Operator) (found o : Options)
-    (instants : Option ℕ) (fetched : List (Result (List ℕ) ShelfError)) (answer : Result Accepted Refusal) (same : ops ≡ lends) (is_o : found ≡ o) (accepting : IsAccepting ops found instants fetched answer) where
+module _ (ops lends : List Operator) (found o : Options) (instants : Option ℕ) (fetched : List (Result (List ℕ) ShelfError)) (answer : Result Accepted Refusal)
+    (same : ops ≡ lends) (is_o : found ≡ o) (accepting : IsAccepting ops found instants fetched answer) where
   accepting_so : IsAccepting lends o instants fetched answer
   accepting_so =
       let P : List Operator → Type 0 = λ u. IsAccepting u found instants fetched answer in
       let Q : Options → Type 0 = λ u. IsAccepting lends u instants fetched answer in
       subst Q is_o (subst P same accepting)
 
+  -- the program that is accepted can be run
+  pub runnable_so : (a : Accepted) → answer ≡ Ok a → HasText fetched (λ text. IsRunnable lends o instants text a)
+  runnable_so a is =
+      let P : Result Accepted Refusal → Type 0 = λ r. IsAccepting lends o instants fetched r in
+      subst P is accepting_so
+
+-- a program that can be run
+module _ (ops : List Operator) (o : Options) (instants : Option ℕ) (fetched : List (Result (List ℕ) ShelfError)) (a : Accepted)
+    (runnable : HasText fetched (λ text. IsRunnable ops o instants text a)) where
+  -- what holds of it holds of a program that was fetched
+  pub of_program : (Holds : Accepted → Type 0) → Holds a → OfProgram Holds ops o fetched
+  of_program Holds holds = text_more fetched _ _ (λ text can. (a, can.0, holds)) runnable
+
+  -- what was read is what it asked for
+  pub reads_so : (before after : SeenSource) (taken : List ℕ) → (a.inputs.items ≡ [] → after ≡ before) → IsAsked a.inputs.items taken →
+      ReadsSo ops o fetched before after taken
+  reads_so before after taken alone asked = elim (some_or_none a.inputs.items) [
+    | inl none ↦ inl (alone none)
+    | inr some ↦ inr (text_more fetched _ _ (λ text can. (a, can.0, some, asked)) runnable)
+  ]
+
+module _ (Owed : List ℕ → ReadStop → Accepted → List ℕ → Ending → Type 0) (MayBreak : List ℕ → ReadStop → Accepted → List ℕ → Type 0) (Order : List ℕ → ReadStop → Accepted → (out out' : SeenSink) → Type 0)
+    (may : (taken : List ℕ) (stop : ReadStop) (a : Accepted) (output : List ℕ) (end : Ending) → Owed taken stop a output end → MayBreak taken stop a output) (ops lends : List Operator) (found o : Options)
+    (instants : Option ℕ) (fetched : List (Result (List ℕ) ShelfError)) (answer : Result Accepted Refusal) (same : ops ≡ lends) (is_o : found ≡ o) (accepting : IsAccepting ops found instants fetched answer) where
   -- the program was not run
   pub unrun : (s : SeenSource) (out err err' : SeenSink) (status : ℕ) (e : Refusal) → answer ≡ Err e → TellsRefusal e err err' status →
       (taken : List ℕ) × (stop : ReadStop) × Read (limit_number limit.Input) s s taken stop × ReadsSo lends o fetched s s taken
@@ -58,7 +81,7 @@ module _ (Owed : List ℕ → ReadStop → Accepted → List ℕ → Ending → 
         Unread,
         record { took = sym (followed-nil s.left); stopped = (refl, refl); none_follows = still_none s.since_stop },
         inl refl,
-        ends_unrun (Owed [] Unread) (MayBreak [] Unread) _ lends o instants fetched e out out err err' status (subst P is accepting_so) refl told,
+        ends_unrun (Owed [] Unread) (MayBreak [] Unread) _ lends o instants fetched e out out err err' status (subst P is (accepting_so ops lends found o instants fetched answer same is_o accepting)) refl told,
       )
 
   -- the program was run
@@ -68,13 +91,10 @@ module _ (Owed : List ℕ → ReadStop → Accepted → List ℕ → Ending → 
       (others : List ℕ) × (halt : ReadStop) × Read (limit_number limit.Input) before after others halt × ReadsSo lends o fetched before after others
       × EndsRunning (Owed others halt) (MayBreak others halt) (OfProgram (λ b. Order others halt b out out') lends o fetched) lends o instants halt fetched out out' err err' status
   ran before after out out' err err' status a end is alone taken stop read asked left order told =
-      let P : Result Accepted Refusal → Type 0 = λ r. IsAccepting lends o instants fetched r in
-      let runnable : HasText fetched (λ text. IsRunnable lends o instants text a) = subst P is accepting_so in
-      let reads : ReadsSo lends o fetched before after taken = elim (some_or_none a.inputs.items) [
-        | inl none ↦ inl (alone none)
-        | inr some ↦ inr (text_more fetched _ _ (λ text can. (a, can.0, some, asked)) runnable)
-      ] in
-      let in_order : end ≡ WriteFault → OfProgram (λ b. Order taken stop b out out') lends o fetched = λ fault. text_more fetched _ _ (λ text can. (a, can.0, order fault)) runnable in
+      let runnable = runnable_so ops lends found o instants fetched answer same is_o accepting a is in
+      let reads = reads_so lends o instants fetched a runnable before after taken alone asked in
+      let in_order : end ≡ WriteFault → OfProgram (λ b. Order taken stop b out out') lends o fetched =
+      λ fault. of_program lends o instants fetched a runnable (λ b. Order taken stop b out out') (order fault) in
       (taken, stop, read, reads, ends_run (Owed taken stop) (MayBreak taken stop) _ lends o instants fetched stop a runnable (may taken stop a) end out out' err err' status left in_order told)
 
 -- a command that ends so with outputs that are owed ends so with others that are

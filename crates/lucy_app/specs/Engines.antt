@@ -1,8 +1,12 @@
--- How a call ends that has an engine play what `run` would run, in one piece, and when it is done.
-use Rattle.std.specs.Prelude.{ℕ, ◌≡◌, ◌⊎◌, List, [], Option, None, Some}
+-- How a call ends that has an engine play what `run` would run, in one piece, what it asks the engine for, and when it is done.
+use Rattle.std.specs.Prelude.{ℕ, ◌≡◌, ◌≢◌, ◌⊎◌, List, [], Option, None, Some}
+use Rattle.lucy_text.specs.Outside.{SeenSink}
+use Rattle.lucy_run.specs.Engines.{Asked, AsksOnce, AsksFor, FailsInPiece}
 use Rattle.lucy_command.specs.Commands.{Command, Run}
+use Rattle.lucy_app.specs.Commands.{inferring_options}
 use Rattle.lucy_app.specs.World.{World, Given, Meets}
 use Rattle.lucy_app.specs.Answers.{printed, no_command, out_of_memory}
+use Rattle.lucy_app.specs.Running.{OfProgram}
 use Rattle.lucy_app.specs.Owes.{Owes, OwesOutput}
 use Rattle.lucy_app.specs.Ends.{Answers, EndsBy, MayStand, Declines}
 use Rattle.lucy_app.specs.Complete.{IsFaultless, MayPrint, Suits}
@@ -17,20 +21,39 @@ abbrev pub whole_run : Option Command → Option Command
 whole_run (Some (Run words workers block)) = in_one_piece (Run words workers block) block
 whole_run found = None
 
--- how a run in one piece ends, by what it has met: as `run` does, but that nothing is said of how much was read where a write failed
-abbrev pub EndsPlayed : Command → (before after : World) (status : ℕ) → Type 0
-EndsPlayed command before after status =
-    (given : Given) × Meets command before after given
-    × EndsBy (Owes command given) (MayStand command given) (OwesOutput command given) before.out after.out before.err after.err status
+-- the engine is asked once, to play the program on what main is fed up to its horizon, by the workers that the words name; or for
+-- nothing, where the call isn't done
+abbrev pub AsksEngine : Command → Given → (asked asked' : Option (List Asked)) (status : ℕ) → Type 0
+AsksEngine (Run words workers block) given asked asked' status =
+    AsksOnce (λ one. OfProgram (λ a. AsksFor a words.instants workers given.taken given.stop one) given.operators
+    (inferring_options words.scale words.lead) given.fetched) (status ≢ 0) asked asked'
+AsksEngine command given asked asked' status = Unit {0}
+
+-- where the output fails nothing more is done: behind a report that failed nothing was read and nothing was played
+abbrev pub StopsInPiece : Command → Given → (asked asked' : Option (List Asked)) (out out' : SeenSink) → Type 0
+StopsInPiece (Run words workers block) given asked asked' out out' =
+    OfProgram (λ a. FailsInPiece a given.stop asked asked' out out') given.operators (inferring_options words.scale words.lead) given.fetched
+StopsInPiece command given asked asked' out out' = Unit {0}
+
+-- how a run in one piece ends, by what it has met and what its engine was asked for before and after: as `run` does, but that the whole
+-- input may have been read where a write of a line failed
+abbrev pub EndsPlayed : Command → (asked asked' : Option (List Asked)) (before after : World) (status : ℕ) → Type 0
+EndsPlayed command asked asked' before after status =
+    (given : Given) × Meets command before after given × AsksEngine command given asked asked' status
+    × EndsBy (Owes command given) (MayStand command given)
+    (λ output. OwesOutput command given output × StopsInPiece command given asked asked' before.out after.out)
+    before.out after.out before.err after.err status
 
 -- how the call ends, where the words name such a run or none; memory may run out before that is known, or before it begins
-abbrev pub EndsPlaying : Option Command → (before after : World) (status : ℕ) → Type 0
-EndsPlaying None before after status = Declines no_command before after status ⊎ Declines (out_of_memory []) before after status
-EndsPlaying (Some command) before after status = EndsPlayed command before after status ⊎ Declines (out_of_memory []) before after status
+abbrev pub EndsPlaying : Option Command → (asked asked' : Option (List Asked)) (before after : World) (status : ℕ) → Type 0
+EndsPlaying None asked asked' before after status =
+    (asked' ≡ asked) × (Declines no_command before after status ⊎ Declines (out_of_memory []) before after status)
+EndsPlaying (Some command) asked asked' before after status =
+    EndsPlayed command asked asked' before after status ⊎ ((asked' ≡ asked) × Declines (out_of_memory []) before after status)
 
 -- a run in one piece that nothing refuses is done and its output stands, whole, or memory runs out
 abbrev pub PlayingCompletes : Type 0
-PlayingCompletes = (command : Command) (before after : World) (status : ℕ) → EndsPlaying (Some command) before after status →
-    IsFaultless before after → Suits command before →
+PlayingCompletes = (command : Command) (asked asked' : Option (List Asked)) (before after : World) (status : ℕ) →
+    EndsPlaying (Some command) asked asked' before after status → IsFaultless before after → Suits command before →
     ((status ≡ 0) × (output : List ℕ) × MayPrint command before output
     × Answers (printed output) before.out after.out before.err after.err status) ⊎ (status ≡ 7)

@@ -33,6 +33,7 @@ use Rattle.lucy_app.specs.Answers.{Answer, OutputOf, printed, read_fault, no_ins
 use Rattle.lucy_app.specs.Commands.{HasText}
 use Rattle.lucy_app.specs.Order.{verdict_line}
 use Rattle.lucy_app.specs.Running.{IsRunnable, OwesRunning}
+pub use Rattle.lucy_app.specs.Running.{OfProgram}
 use Rattle.lucy_app.specs.Replaying.{OwesEvents, OwesLog}
 use Rattle.lucy_text.specs.Sources.{ReadStop, Unread}
 use Rattle.lucy_app.specs.World.{World, Given}
@@ -150,10 +151,6 @@ abbrev pub EndsRunning : (Owed : Accepted → List ℕ → Ending → Type 0) (M
 EndsRunning Owed MayBreak InOrder ops o instants stop fetched out out' err err' status =
     EndsBy (OwesRunning Owed ops o instants stop fetched) (IsFrontOf (RunOutputs MayBreak ops o instants fetched))
     (λ output. RunOutputs MayBreak ops o instants fetched output × InOrder) out out' err err' status
-
--- a program that is run, of which this holds
-abbrev pub OfProgram : (Holds : Accepted → Type 0) → List Operator → Options → List (Result (List ℕ) ShelfError) → Type 0
-OfProgram Holds ops o fetched = HasText fetched (λ text. (a : Accepted) × IsAccepted ops o text a × Holds a)
 
 -- what `make` has met
 abbrev pub made_given : List Operator → Given

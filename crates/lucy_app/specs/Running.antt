@@ -9,6 +9,7 @@ use Rattle.lucy_program.specs.Accepting.{IsAccepted}
 use Rattle.lucy_run.specs.declared.ending.Ending.{Ending}
 use Rattle.lucy_app.specs.Answers.{Answer, no_instants}
 use Rattle.lucy_app.specs.Check.{RefusesCheck}
+use Rattle.lucy_app.specs.Commands.{HasText}
 use Rattle.lucy_app.specs.Endings.{ended_answer}
 use Rattle.lucy_app.specs.Programs.{OwesText}
 
@@ -19,6 +20,10 @@ LacksInstants a instants = (a.inputs.items ≡ []) × (instants ≡ None)
 -- the text is accepted as this program, which can be run
 abbrev pub IsRunnable : List Operator → Options → (instants : Option ℕ) → (text : List ℕ) → Accepted → Type 0
 IsRunnable ops o instants text a = IsAccepted ops o text a × (LacksInstants a instants → ⊥)
+
+-- of the program that was fetched, which is accepted, this holds
+abbrev pub OfProgram : (Holds : Accepted → Type 0) → List Operator → Options → (fetched : List (Result (List ℕ) ShelfError)) → Type 0
+OfProgram Holds ops o fetched = HasText fetched (λ text. (a : Accepted) × IsAccepted ops o text a × Holds a)
 
 -- of a program that is run: that its instants are missing, where nothing is read, or the output and the ending that the run owes
 abbrev pub OwesEnded : (Owed : List ℕ → Ending → Type 0) → (instants : Option ℕ) → ReadStop → Accepted → Answer → Type 0

@@ -1,5 +1,5 @@
 // The command `run` in one piece, by an engine that is handed in.
-ghost use Rattle.std.specs.Prelude.{◌≡◌, ◌⊎◌, ◌≤◌, ◌∷◌, ℕ, List, [], None, map, string_bytes, IfSome};
+ghost use Rattle.std.specs.Prelude.{◌≡◌, ◌≢◌, ◌⊎◌, ◌≤◌, ◌∷◌, ℕ, List, [], None, map, string_bytes, IfSome};
 ghost use Rattle.std.specs.Option.{option_map};
 ghost use Rattle.lucy_word.specs.Limits.{limit_number};
 ghost use Rattle.lucy_word.specs.declared.limit.Limit.TheVariants as limit;
@@ -7,6 +7,7 @@ ghost use Rattle.lucy_host.specs.Host.{lent};
 ghost use Rattle.lucy_host.specs.Operators.{kinds_of};
 ghost use Rattle.lucy_text.specs.Sources.{ReadStop, Read};
 ghost use Rattle.lucy_run.specs.Owes.{OwesRun, LinesAllow};
+ghost use Rattle.lucy_run.specs.Engines.{AsksOnce, AsksFor, FailsInPiece};
 ghost use Rattle.lucy_command.specs.Commands.{command_of};
 ghost use Rattle.lucy_command.specs.Named.{named, run_named, IsWithin};
 ghost use Rattle.lucy_app.specs.Commands.{inferring_options, TakesInput};
@@ -56,9 +57,12 @@ fn play<I: Source, O: Sink, E: Sink, N: Engine<F>, F: Fn(u32, i64, i64) -> i64 +
     ensures ends { (taken : List ℕ) × (stop : ReadStop) × Read (limit_number limit.Input) (I.seen input.old) (I.seen input.new) taken stop
         × ((I.seen input.new ≡ I.seen input.old)
         ⊎ TakesInput (lent host.now) (inferring_options words.entry.scale words.entry.lead) (bytes_of fetched ∷ []) taken)
+        × AsksOnce (λ one. OfProgram (λ a. AsksFor a words.entry.instants words.entry.workers taken stop one) (lent host.now)
+        (inferring_options words.entry.scale words.entry.lead) (bytes_of fetched ∷ [])) (result ≢ 0) (N.asked engine.old) (N.asked engine.new)
         × EndsRunning (λ a. OwesRun (kinds_of (lent host.now)) a words.entry.instants taken stop)
         (λ a. LinesAllow (kinds_of (lent host.now)) a words.entry.instants taken stop)
-        (OfProgram (λ a. Unit {0}) (lent host.now) (inferring_options words.entry.scale words.entry.lead) (bytes_of fetched ∷ []))
+        (OfProgram (λ a. FailsInPiece a stop (N.asked engine.old) (N.asked engine.new) (O.seen out.old) (O.seen out.new))
+        (lent host.now) (inferring_options words.entry.scale words.entry.lead) (bytes_of fetched ∷ []))
         (lent host.now) (inferring_options words.entry.scale words.entry.lead) words.entry.instants stop (bytes_of fetched ∷ [])
         (O.seen out.old) (O.seen out.new) (E.seen err.old) (E.seen err.new) result }
     ensures quiet { result ≡ 0 → err.new ≡ err.old }
@@ -97,7 +101,7 @@ fn play_file<
 ) -> u8
     requires plays { N.plays engine.old host.now }
     requires within { IsWithin (run_named words) }
-    ensures ends { EndsPlayed (run_named words.entry)
+    ensures ends { EndsPlayed (run_named words.entry) (N.asked engine.old) (N.asked engine.new)
         (world (S.seen shelf.old) (I.seen input.old) (O.seen out.old) (E.seen err.old) (lent host.now))
         (world (S.seen shelf.new) (I.seen input.new) (O.seen out.new) (E.seen err.new) (lent host.now)) result }
     ensures quiet { result ≡ 0 → err.new ≡ err.old }
@@ -111,9 +115,10 @@ fn play_file<
 }
 
 /// Does what [`lucy`](crate::lucy) does with words that name `run` without `--block`, but has the program played by an engine that is
-/// handed in, in one piece: the report and the line `run` are written, the whole input is read, the engine plays, and the lines are
-/// written. The answer is the status, with the causes that `run` has there. All other words are for it words that name no command:
-/// with 2 the line `lucy: words` stands on `err`, with 7 the line that says that memory ran out; with 5 a write to `err` failed.
+/// handed in, in one piece: the report and the line `run` are written, the whole input is read, the engine is asked once, for so many
+/// workers, and plays, and the lines are written. Where a write of the report failed, nothing is read and nothing is played. The answer is
+/// the status, with the causes that `run` has there. All other words are for it words that name no command: with 2 the line
+/// `lucy: words` stands on `err`, with 7 the line that says that memory ran out; with 5 a write to `err` failed.
 ///
 /// It returns if the engine does.
 pub fn run_with<
@@ -134,12 +139,13 @@ pub fn run_with<
     host: &Host<F>,
 ) -> u8
     requires { N.plays engine.old host.now }
-    // How the call ends, by what the words give `run`, where they name it and no block.
-    ensures ends { EndsPlaying (whole_run (command_of (map string_bytes words.now)))
+    // How the call ends, by what the words give `run`, where they name it and no block, and what the engine was asked for.
+    ensures ends { EndsPlaying (whole_run (command_of (map string_bytes words.now))) (N.asked engine.old) (N.asked engine.new)
         (world (S.seen shelf.old) (I.seen input.old) (O.seen out.old) (E.seen err.old) (lent host.now))
         (world (S.seen shelf.new) (I.seen input.new) (O.seen out.new) (E.seen err.new) (lent host.now)) result }
     ensures statuses { result ≤ 7 }
     // Other words are refused, and then nothing but `err` is touched.
+    ensures other_words_engine { whole_run (command_of (map string_bytes words.now)) ≡ None → engine.new ≡ engine.old }
     ensures other_words { whole_run (command_of (map string_bytes words.now)) ≡ None → (result ≡ 2) ⊎ (result ≡ 5) ⊎ (result ≡ 7) }
     ensures other_words_out { whole_run (command_of (map string_bytes words.now)) ≡ None → out.new ≡ out.old }
     ensures other_words_shelf { whole_run (command_of (map string_bytes words.now)) ≡ None → shelf.new ≡ shelf.old }

@@ -39,8 +39,8 @@ pub fn lucy_free<
     host: &Host<F>,
 ) -> u8
     requires { Serves F.pre F.post host.now }
-    // How the call ends, by what the words give `run`, where they name it and no block.
-    ensures ends { EndsPlaying (whole_run (command_of (map string_bytes words.now)))
+    // How the call ends, by what the words give `run`, where they name it and no block. Its engine tells nothing of what it is asked for.
+    ensures ends { EndsPlaying (whole_run (command_of (map string_bytes words.now))) None None
         (world (S.seen shelf.old) (I.seen input.old) (O.seen out.old) (E.seen err.old) (lent host.now))
         (world (S.seen shelf.new) (I.seen input.new) (O.seen out.new) (E.seen err.new) (lent host.now)) result }
     ensures statuses { result ≤ 7 }

@@ -1,4 +1,6 @@
 // An engine that always wants memory.
+ghost use Rattle.std.specs.Prelude.{None};
+
 use lucy_app::Engine;
 use lucy_host::{Host, Inputs};
 use lucy_program::Accepted;
@@ -10,6 +12,8 @@ pub(crate) struct Wanting;
 
 impl<F> Engine<F> for Wanting {
     ghost plays = { λ _ _. Unit {0} };
+
+    ghost asked = { λ _. None };
 
     fn play(
         &mut self,

@@ -1,27 +1,35 @@
-use Rattle.std.proofs.Common.{ap, ◌∷◌, []}
+use Rattle.std.proofs.Common.{ap, ◌∷◌, [], refl, inr}
 use Rattle.lucy_host.specs.Host.{lent}
 use Rattle.lucy_host.specs.Operators.{kinds_of}
 use Rattle.lucy_run.specs.Owes.{OwesRun, LinesAllow}
+use Rattle.lucy_run.specs.Engines.{FailsInPiece}
 use Rattle.lucy_run.proofs.FedLaws.{owed_allowed}
 use Rattle.lucy_app.specs.Commands.{inferring_options}
 use Rattle.lucy_app.specs.Outcomes.{bytes_of}
-use Rattle.lucy_app.proofs.RunEnds.{unrun, ran}
+use Rattle.lucy_app.proofs.RunEnds.{runnable_so, unrun}
+use Rattle.lucy_app.proofs.Played.{played}
 use Rattle.lucy_app.proofs.playing.play.Goals as goal
 
 pub returns-in-Ok-clause-ends : goal.returns-in-Ok-clause-ends
 returns-in-Ok-clause-ends g c =
-    let (taken, stop, read, asked, left) = c.run_by-ending.ensures.ends in
-    ran (λ taken stop a. OwesRun (kinds_of (lent c.args.host.now)) a c.args.words.instants taken stop) (λ taken stop a. LinesAllow (kinds_of (lent c.args.host.now)) a c.args.words.instants taken stop)
-    (λ taken stop a out out'. Unit {0}) (λ taken stop a. owed_allowed (kinds_of (lent c.args.host.now)) a c.args.words.instants taken stop) c.ops.result.now (lent c.args.host.now) c.inferring-options.result
-    (inferring_options c.args.words.scale c.args.words.lead) c.args.words.instants (bytes_of c.args.fetched ∷ []) c.accepted.result
-    c.ops.ensures c.inferring-options.ensures.is c.accepted.ensures.accepting
-    _ _ _ _ _ _ _ c.in-Ok.accepted _ c.in-Ok.is (λ none. ap g.I.Source.seen (c.run_by-ending.ensures.unread none)) taken stop read asked
-    left (λ fault. tt) c.conclude.ensures.told
+    let (taken, stop, read, bytes, left) = c.run_by-ending.ensures.ends in
+    let o = inferring_options c.args.words.scale c.args.words.lead in
+    let runnable = runnable_so c.ops.result.now (lent c.args.host.now) c.inferring-options.result o c.args.words.instants
+    (bytes_of c.args.fetched ∷ []) c.accepted.result c.ops.ensures c.inferring-options.ensures.is c.accepted.ensures.accepting
+    c.in-Ok.accepted c.in-Ok.is in
+    played (kinds_of (lent c.args.host.now)) (lent c.args.host.now) o c.args.words.instants c.args.words.workers
+    (bytes_of c.args.fetched ∷ []) c.in-Ok.accepted runnable (g.N.Engine.asked c.args.engine.now) (g.N.Engine.asked c.run_by-ending.new.engine)
+    _ _ _ _ _ _ _ _ (λ none. ap g.I.Source.seen (c.run_by-ending.ensures.unread none)) taken stop read bytes left c.conclude.ensures.told
 
 pub returns-in-Err-clause-ends : goal.returns-in-Err-clause-ends
 returns-in-Err-clause-ends g c =
-    unrun (λ taken stop a. OwesRun (kinds_of (lent c.args.host.now)) a c.args.words.instants taken stop) (λ taken stop a. LinesAllow (kinds_of (lent c.args.host.now)) a c.args.words.instants taken stop)
-    (λ taken stop a out out'. Unit {0}) (λ taken stop a. owed_allowed (kinds_of (lent c.args.host.now)) a c.args.words.instants taken stop) c.ops.result.now (lent c.args.host.now) c.inferring-options.result
-    (inferring_options c.args.words.scale c.args.words.lead) c.args.words.instants (bytes_of c.args.fetched ∷ []) c.accepted.result
-    c.ops.ensures c.inferring-options.ensures.is c.accepted.ensures.accepting
-    _ _ _ _ _ c.in-Err.refusal c.in-Err.is c.refuse.ensures.told
+    let asked = g.N.Engine.asked c.args.engine.now in
+    let (taken, stop, read, reads, ends) = unrun (λ taken stop a. OwesRun (kinds_of (lent c.args.host.now)) a c.args.words.instants taken stop)
+    (λ taken stop a. LinesAllow (kinds_of (lent c.args.host.now)) a c.args.words.instants taken stop)
+    (λ taken stop a out out'. FailsInPiece a stop asked asked out out')
+    (λ taken stop a. owed_allowed (kinds_of (lent c.args.host.now)) a c.args.words.instants taken stop) c.ops.result.now (lent c.args.host.now)
+    c.inferring-options.result (inferring_options c.args.words.scale c.args.words.lead) c.args.words.instants (bytes_of c.args.fetched ∷ [])
+    c.accepted.result c.ops.ensures c.inferring-options.ensures.is c.accepted.ensures.accepting
+    (g.I.Source.seen c.args.input.now) (g.O.Sink.seen c.args.out.now) (g.E.Sink.seen c.args.err.now) (g.E.Sink.seen c.refuse.new.err)
+    c.refuse.result c.in-Err.refusal c.in-Err.is c.refuse.ensures.told in
+    (taken, stop, read, reads, inr (c.refuse.ensures.fails, refl), ends)

@@ -17,5 +17,7 @@ returns-clause-ends g c =
     } in (
       given,
       record { shelf = (_, c.fetch-fetched.ensures.fetched, refl); source = read.2; unread = read.3; operators = refl },
-      played_met (record { file = c.args.words.file.now; scale = c.args.words.scale; lead = c.args.words.lead; instants = c.args.words.instants }) c.args.words.workers c.args.words.block given _ _ _ _ _ read.4,
+      read.4,
+      played_met (record { file = c.args.words.file.now; scale = c.args.words.scale; lead = c.args.words.lead; instants = c.args.words.instants })
+          c.args.words.workers c.args.words.block given (g.N.Engine.asked c.args.engine.now) (g.N.Engine.asked c.play.new.engine) _ _ _ _ _ read.5,
     )
