@@ -47,31 +47,19 @@ pub(crate) fn look<S: Shelf, O: Sink, E: Sink, F: Fn(u32, i64, i64) -> i64 + Syn
         }
         Command::Check(file) => {
             let fetched = fetch(alloc, shelf, file, Limit::Text);
-            finish(
-                alloc,
-                out,
-                err,
-                check::answer(alloc, fetched, host.ops(), &written()),
-            )
+            let answer = check::answer(alloc, fetched, host.ops(), &written());
+            finish(alloc, out, err, answer)
         }
         Command::Clocks(words) => {
             let fetched = fetch(alloc, shelf, words.file, Limit::Text);
             let options = inferring(words.scale, words.lead);
-            finish(
-                alloc,
-                out,
-                err,
-                check::answer(alloc, fetched, host.ops(), &options),
-            )
+            let answer = check::answer(alloc, fetched, host.ops(), &options);
+            finish(alloc, out, err, answer)
         }
         Command::Tighten(words) => {
             let fetched = fetch(alloc, shelf, words.file, Limit::Text);
-            finish(
-                alloc,
-                out,
-                err,
-                tightening::answer(alloc, fetched, host.ops(), words),
-            )
+            let answer = tightening::answer(alloc, fetched, host.ops(), words);
+            finish(alloc, out, err, answer)
         }
         Command::Order
         | Command::Run(_)

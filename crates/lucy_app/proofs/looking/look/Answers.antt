@@ -21,20 +21,20 @@ returns-in-Types-clause-ends g c source =
 
 pub returns-in-Check-clause-ends : goal.returns-in-Check-clause-ends
 returns-in-Check-clause-ends g c source =
-    ends_some _ _ (record { fetched = bytes_of c.fetch-fetched-in-Check.result ∷ []; taken = []; stop = Unread; operators = lent c.args.host.now }) c.answer-in-Check.result _ _ _ (ap named (sym c.in-Check.is))
+    ends_some _ _ (record { fetched = bytes_of c.fetch-fetched-in-Check.result ∷ []; taken = []; stop = Unread; operators = lent c.args.host.now }) c.answer-answer.result _ _ _ (ap named (sym c.in-Check.is))
     (record { shelf = (_, c.fetch-fetched-in-Check.ensures.fetched, refl); source = (refl, refl, refl); unread = inl refl; operators = refl })
-    refl tt (check_met _ _ _ _ (bytes_of c.fetch-fetched-in-Check.result ∷ []) _ c.ops-in-Check.ensures c.written.ensures.is c.answer-in-Check.ensures.outcome) c.finish-in-Check.ensures.delivers
+    refl tt (check_met _ _ _ _ (bytes_of c.fetch-fetched-in-Check.result ∷ []) _ c.ops-in-Check.ensures c.written.ensures.is c.answer-answer.ensures.outcome) c.finish-in-Check.ensures.delivers
 
 pub returns-in-Clocks-clause-ends : goal.returns-in-Clocks-clause-ends
 returns-in-Clocks-clause-ends g c source =
-    ends_some _ _ (record { fetched = bytes_of c.fetch-fetched-in-Clocks.result ∷ []; taken = []; stop = Unread; operators = lent c.args.host.now }) c.answer-in-Clocks.result _ _ _ (ap named (sym c.in-Clocks.is))
+    ends_some _ _ (record { fetched = bytes_of c.fetch-fetched-in-Clocks.result ∷ []; taken = []; stop = Unread; operators = lent c.args.host.now }) c.answer-answer-in-Clocks.result _ _ _ (ap named (sym c.in-Clocks.is))
     (record { shelf = (_, c.fetch-fetched-in-Clocks.ensures.fetched, refl); source = (refl, refl, refl); unread = inl refl; operators = refl })
-    refl tt (check_met _ _ _ _ (bytes_of c.fetch-fetched-in-Clocks.result ∷ []) _ c.ops-in-Clocks.ensures c.inferring-options.ensures.is c.answer-in-Clocks.ensures.outcome) c.finish-in-Clocks.ensures.delivers
+    refl tt (check_met _ _ _ _ (bytes_of c.fetch-fetched-in-Clocks.result ∷ []) _ c.ops-in-Clocks.ensures c.inferring-options.ensures.is c.answer-answer-in-Clocks.ensures.outcome) c.finish-in-Clocks.ensures.delivers
 
 pub returns-in-Tighten-clause-ends : goal.returns-in-Tighten-clause-ends
 returns-in-Tighten-clause-ends g c source =
     let fetched = bytes_of c.fetch-fetched-in-Tighten.result ∷ [] in
     let given : Given = record { fetched = fetched; taken = []; stop = Unread; operators = lent c.args.host.now } in
-    ends_some _ _ given c.answer-in-Tighten.result _ _ _ (ap named (sym c.in-Tighten.is))
+    ends_some _ _ given c.answer-answer-in-Tighten.result _ _ _ (ap named (sym c.in-Tighten.is))
     (record { shelf = (_, c.fetch-fetched-in-Tighten.ensures.fetched, refl); source = (refl, refl, refl); unread = inl refl; operators = refl })
-    refl tt (tight_met _ _ _ c.in-Tighten.words.node.now c.in-Tighten.words.buffer fetched _ c.ops-in-Tighten.ensures c.answer-in-Tighten.ensures.outcome) c.finish-in-Tighten.ensures.delivers
+    refl tt (tight_met _ _ _ c.in-Tighten.words.node.now c.in-Tighten.words.buffer fetched _ c.ops-in-Tighten.ensures c.answer-answer-in-Tighten.ensures.outcome) c.finish-in-Tighten.ensures.delivers
