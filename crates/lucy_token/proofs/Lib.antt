@@ -13,6 +13,7 @@ pub mod SomeCut
 pub mod WordFronts
 pub mod FormFronts
 pub mod WordLaws
+mod OldTexts
 pub mod WrittenLaws
 pub mod PrintFronts
 pub mod PrintEnds

@@ -17,7 +17,7 @@ mod stop;
 mod token;
 
 pub use front::Front;
-pub use laws::{texts_have_one_cut, words_end_with_their_form};
+pub use laws::{old_texts_mean_the_same, texts_have_one_cut, words_end_with_their_form};
 pub use mark::{Mark, op_mark, sign_of};
 pub use name::is_name;
 pub use scan::tokens;
