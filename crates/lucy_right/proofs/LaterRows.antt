@@ -38,7 +38,7 @@ use Rattle.lucy_check.proofs.OneVerdict.{one_size}
 use Rattle.lucy_flat.specs.Clocked.{IsClock, AreClocked}
 use Rattle.lucy_naming.specs.Places.{AreNodesOf}
 use Rattle.lucy_right.specs.Right.{Meaning, StandsFor}
-use Rattle.lucy_right.proofs.NodesLaws.{are_placed}
+use Rattle.lucy_naming.proofs.NodesLaws.{are_placed}
 
 -- (10) and (01)
 abbrev pub odd : Bits
@@ -48,29 +48,29 @@ abbrev pub even : Bits
 even = record { prefix = []; period = false ∷ true ∷ [] }
 
 -- the program
-abbrev pub nm : List ℕ → ℕ → ℕ → Name
-nm text from to = record { text = text; span = record { from = from; to = to } }
+abbrev pub a_name : List ℕ → ℕ → ℕ → Name
+a_name text from to = record { text = text; span = record { from = from; to = to } }
 
 unfoldable pub later : NodeTree
 later = record {
-  name = nm (codes "later") 9 14;
-  params = record { name = nm (codes "x") 16 17; holds = Some Int; word = Some odd } ∷ [];
-  results = nm (codes "y") 35 36 ∷ [];
-  defs = record { left = record { name = nm (codes "y") 47 48; holds = None; word = Some even } ∷ []; right = buffered None (variable (nm (codes "x") 66 67)) (record { from = 59; to = 65 }) } ∷ [];
+  name = a_name (codes "later") 9 14;
+  params = record { name = a_name (codes "x") 16 17; holds = Some Int; word = Some odd } ∷ [];
+  results = a_name (codes "y") 35 36 ∷ [];
+  defs = record { left = record { name = a_name (codes "y") 47 48; holds = None; word = Some even } ∷ []; right = buffered None (variable (a_name (codes "x") 66 67)) (record { from = 59; to = 65 }) } ∷ [];
 }
 
 -- its places: x, y, and the buffer
 abbrev pub x_place : PlaceEntry
-x_place = record { name = Some (nm (codes "x") 16 17); holds = Some Int; word = Some odd; kind = kind.Param }
+x_place = record { name = Some (a_name (codes "x") 16 17); holds = Some Int; word = Some odd; kind = kind.Param }
 
 abbrev pub y_place : PlaceEntry
-y_place = record { name = Some (nm (codes "y") 47 48); holds = None; word = Some even; kind = kind.Defined 3 }
+y_place = record { name = Some (a_name (codes "y") 47 48); holds = None; word = Some even; kind = kind.Defined 3 }
 
 abbrev pub b_place : PlaceEntry
 b_place = record { name = None; holds = None; word = None; kind = kind.Buffer 1 1 }
 
 abbrev pub node : PlacedNode
-node = record { name = nm (codes "later") 9 14; params = 1; places = x_place ∷ y_place ∷ b_place ∷ []; results = 2 ∷ []; buffers = 3 ∷ []; bounds = None ∷ []; calls = [] }
+node = record { name = a_name (codes "later") 9 14; params = 1; places = x_place ∷ y_place ∷ b_place ∷ []; results = 2 ∷ []; buffers = 3 ∷ []; bounds = None ∷ []; calls = [] }
 
 -- their types, their words behind that of the base, and the size of the buffer
 abbrev pub types : List Ty

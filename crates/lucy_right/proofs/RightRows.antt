@@ -35,8 +35,8 @@ use Rattle.lucy_kahn.specs.Items.{SpotItem, IsSpotWalk, IsCausalProgram}
 use Rattle.lucy_flat.specs.Clocked.{IsClock, AreClocked}
 use Rattle.lucy_naming.specs.Places.{AreNodesOf}
 use Rattle.lucy_right.specs.Names.{IsWellNamed}
-use Rattle.lucy_right.proofs.NodesLaws.{placed_are}
-use Rattle.lucy_right.proofs.LaterRows.{only, odd, even, later, node, words, clock, meaning, x_place, y_place, b_place, nm, typed, counts, lead, size_one, shorts, word_at}
+use Rattle.lucy_naming.proofs.NodesLaws.{placed_are}
+use Rattle.lucy_right.proofs.LaterRows.{only, odd, even, later, node, words, clock, meaning, x_place, y_place, b_place, a_name, typed, counts, lead, size_one, shorts, word_at}
 use Rattle.lucy_right.proofs.EndRows.{x_input, y_output, input, due, printings, said, splits, suffices, IsRight}
 
 -- what holds of each of its places
@@ -163,7 +163,7 @@ written = record {
   words = λ p entry name at. each_place (λ p entry. entry.name ≡ Some name → (word : Bits) × (entry.word ≡ Some word)) (λ e. (odd, refl)) (λ e. (even, refl)) (λ e. absurd (none_some name e)) p entry at;
   bases = λ c site e. absurd (no_call c site e);
   sampled = λ p e word s. each_place (λ p entry. entry.kind ≡ kind.When e word → IsNamed node e) (λ bad. absurd (cc bad)) (λ bad. absurd (cc bad)) (λ bad. absurd (cc bad)) p s.0 s.1 s.2;
-  buffered = λ p b e s. subst (IsNamed node) (sym (buffer_reads p b e s).1) (x_place, nm (codes "x") 16 17, refl, refl);
+  buffered = λ p b e s. subst (IsNamed node) (sym (buffer_reads p b e s).1) (x_place, a_name (codes "x") 16 17, refl, refl);
   arguments = λ c site e. absurd (no_call c site e);
 }
 
