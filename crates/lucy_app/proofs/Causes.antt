@@ -6,7 +6,7 @@ use Rattle.lucy_word.specs.declared.error.WordError.{WordError}
 use Rattle.lucy_word.specs.declared.error.WordError.TheVariants as word
 use Rattle.lucy_word.specs.declared.limit.Limit.TheVariants as limit
 use Rattle.lucy_word.proofs.SpellingLaws.{reads_one}
-use Rattle.lucy_app.specs.Fields.{fields}
+use Rattle.lucy_app.specs.Fields.{field_texts}
 use Rattle.lucy_check.specs.Horizon.{AreFar}
 use Rattle.lucy_check.specs.Verdicts.{IsVerdict}
 use Rattle.lucy_check.proofs.OneVerdict.{one_verdict}
@@ -71,8 +71,8 @@ one_pair : (text : List ℕ) (a b c d : Bits) → IsPair text a b → IsPair tex
 one_pair text a b c d is also =
     let P : List ℕ → Type 0 = λ u. IsReadable u c in
     let Q : List ℕ → Type 0 = λ u. IsReadable u d in (
-      one_bits is.0 a c is.3 (subst P (same_first (fields text) _ _ _ _ also.2 is.2) also.3),
-      one_bits is.1 b d is.4 (subst Q (same_second (fields text) _ _ _ _ also.2 is.2) also.4),
+      one_bits is.0 a c is.3 (subst P (same_first (field_texts text) _ _ _ _ also.2 is.2) also.3),
+      one_bits is.1 b d is.4 (subst Q (same_second (field_texts text) _ _ _ _ also.2 is.2) also.4),
     )
 
 -- two words about which not too many instants decide are not refused
@@ -85,7 +85,7 @@ words_are_not_refused u v a b cause is also near (inr (c, read, inr (d, this, fa
     near (subst Q (one_bits v d b this also) (subst P (one_bits u c a read is) far))
 
 -- nor are the fields of a text that is such words
-pub pair_is_not_refused : (text : List ℕ) (a b : Bits) (cause : InputCause) → IsPair text a b → (AreFar a b → ⊥) → RefusesFields (fields text) cause → ⊥
+pub pair_is_not_refused : (text : List ℕ) (a b : Bits) (cause : InputCause) → IsPair text a b → (AreFar a b → ⊥) → RefusesFields (field_texts text) cause → ⊥
 pair_is_not_refused text a b cause (u, v, two, is, also) near h =
     let P : List (List ℕ) → Type 0 = λ texts. RefusesFields texts cause in
     words_are_not_refused u v a b cause is also near (subst P two h)

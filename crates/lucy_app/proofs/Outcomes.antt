@@ -11,7 +11,7 @@ use Rattle.lucy_text.specs.declared.read.ReadError.{ReadError}
 use Rattle.lucy_text.specs.declared.read.ReadError.TheVariants as read
 use Rattle.lucy_front.specs.Refusing.{RefusesText}
 use Rattle.lucy_app.specs.Answers.{Answer, limit_passed}
-use Rattle.lucy_app.specs.Fields.{fields}
+use Rattle.lucy_app.specs.Fields.{field_texts}
 use Rattle.lucy_host.specs.Operators.{Operator}
 use Rattle.lucy_program.specs.declared.options.Options.{Options}
 use Rattle.lucy_app.specs.Types.{IsReportOf}
@@ -81,7 +81,7 @@ tight_met ops lends o name buffer fetched r same is =
     subst P same is
 
 -- an input that was read to its end came out so
-order_owed : (text : List ℕ) (r : Result (Vec ℕ Global) Refusal) → IfOk r (λ v. IsVerdictLine text v.items) → IfErr r (RefusesInput (RefusesFields (fields text))) →
+order_owed : (text : List ℕ) (r : Result (Vec ℕ Global) Refusal) → IfOk r (λ v. IsVerdictLine text v.items) → IfErr r (RefusesInput (RefusesFields (field_texts text))) →
     IsOwedOutcome (OwesOrder text Ended) r
 order_owed text (Ok line) is why = inl (line.items, is, refl)
 order_owed text (Err e) is (inl out) = inl out
@@ -89,7 +89,7 @@ order_owed text (Err e) is (inr why) = inr (inr (why.0, why.1, ap refusal_answer
 
 pub order_outcome : (most : ℕ) (taken bytes : List ℕ) (stop : ReadStop) (r : Result (Vec ℕ Global) Refusal) → bytes ≡ taken → length bytes ≤ most →
     ((length taken ≤ most) × (stop ≡ Ended)) ⊎ ((most < length taken) × (stop ≡ Passed)) →
-    IfOk r (λ v. IsVerdictLine bytes v.items) → IfErr r (RefusesInput (RefusesFields (fields bytes))) → IsOwedOutcome (OwesOrder taken stop) r
+    IfOk r (λ v. IsVerdictLine bytes v.items) → IfErr r (RefusesInput (RefusesFields (field_texts bytes))) → IsOwedOutcome (OwesOrder taken stop) r
 order_outcome most taken bytes stop r same short (inl ended) is why =
     let P : List ℕ → Type 0 = λ t. IsOwedOutcome (OwesOrder t stop) r in
     let Q : ReadStop → Type 0 = λ s. IsOwedOutcome (OwesOrder bytes s) r in

@@ -10,7 +10,7 @@ use Rattle.lucy_app.specs.Commands.{written_options, inferring_options}
 use Rattle.lucy_text.specs.Sources.{ReadStop, Ended, Failed, Passed}
 use Rattle.lucy_app.specs.World.{Given}
 use Rattle.lucy_app.specs.Answers.{Answer, AreTightAlike, MayDiffer, Alike, printed, program_refused, input_refused}
-use Rattle.lucy_app.specs.Fields.{fields}
+use Rattle.lucy_app.specs.Fields.{field_texts}
 use Rattle.lucy_app.specs.Show.{IsPrintOf}
 use Rattle.lucy_app.specs.Types.{IsReportOf}
 use Rattle.lucy_app.specs.Check.{IsCheckOf, RefusesCheck}
@@ -39,7 +39,7 @@ pub order_owes_one : (taken : List ℕ) (stop : ReadStop) (a b : Answer) → Owe
 order_owes_one taken Ended a b (inl is) (inl also) = is.2 ∙ ap printed (one_line taken is.0 also.0 is.1 also.1) ∙ sym also.2
 order_owes_one taken Ended a b (inl is) (inr also) = absurd (pair_is_not_refused taken is.1.0 is.1.1 also.0 is.1.3 is.1.6 also.1)
 order_owes_one taken Ended a b (inr is) (inl also) = absurd (pair_is_not_refused taken also.1.0 also.1.1 is.0 also.1.3 also.1.6 is.1)
-order_owes_one taken Ended a b (inr is) (inr also) = is.2 ∙ ap input_refused (one_cause_of_fields (fields taken) is.0 also.0 is.1 also.1) ∙ sym also.2
+order_owes_one taken Ended a b (inr is) (inr also) = is.2 ∙ ap input_refused (one_cause_of_fields (field_texts taken) is.0 also.0 is.1 also.1) ∙ sym also.2
 order_owes_one taken Failed a b is also = is ∙ sym also
 order_owes_one taken Passed a b is also = is ∙ sym also
 order_owes_one taken stop a b is also = absurd is

@@ -9,7 +9,7 @@ use Rattle.lucy_word.specs.Limits.{limit_number}
 use Rattle.lucy_word.specs.declared.limit.Limit.TheVariants as limit
 use Rattle.lucy_check.specs.Horizon.{IsHorizon, AreFar}
 use Rattle.lucy_check.proofs.CheckLaws.{horizon_one}
-use Rattle.lucy_app.specs.Fields.{fields}
+use Rattle.lucy_app.specs.Fields.{field_texts}
 use Rattle.lucy_app.specs.Order.{IsPair, IsVerdictLine, RefusesWord, RefusesFields}
 use Rattle.lucy_app.specs.declared.input_refusal.InputCause.{InputCause}
 use Rattle.lucy_app.specs.declared.input_refusal.InputCause.TheVariants.{Count, Limit}
@@ -24,7 +24,7 @@ pair_of f (x ∷ (y ∷ [])) d e some few = refl
 pair_of f (x ∷ (y ∷ (z ∷ xs))) d e some few = absurd (omega arith)
 
 -- two fields from which words are read are a pair
-pub parts_pair : {X : Type 0} (f : X → List ℕ) (xs : List X) (d : X) (text : List ℕ) (a b : Bits) → map f xs ≡ fields text → 2 ≤ length xs → length xs < 3 →
+pub parts_pair : {X : Type 0} (f : X → List ℕ) (xs : List X) (d : X) (text : List ℕ) (a b : Bits) → map f xs ≡ field_texts text → 2 ≤ length xs → length xs < 3 →
     IsReadable (f (get_or xs 0 d)) a → IsReadable (f (get_or xs 1 d)) b → IsPair text a b
 parts_pair f xs d text a b cut some few first second =
     (f (get_or xs 0 d), f (get_or xs 1 d), sym cut ∙ pair_of f xs d d some few, first, second)
@@ -37,21 +37,21 @@ count_refused (u ∷ (v ∷ [])) other = absurd (other refl)
 count_refused (u ∷ (v ∷ (w ∷ texts))) other = refl
 
 -- what refuses two fields refuses the text that they are
-two_refused : {X : Type 0} (f : X → List ℕ) (xs : List X) (d : X) (text : List ℕ) (cause : InputCause) → map f xs ≡ fields text → 2 ≤ length xs → length xs < 3 →
-    RefusesFields (f (get_or xs 0 d) ∷ (f (get_or xs 1 d) ∷ [])) cause → RefusesFields (fields text) cause
+two_refused : {X : Type 0} (f : X → List ℕ) (xs : List X) (d : X) (text : List ℕ) (cause : InputCause) → map f xs ≡ field_texts text → 2 ≤ length xs → length xs < 3 →
+    RefusesFields (f (get_or xs 0 d) ∷ (f (get_or xs 1 d) ∷ [])) cause → RefusesFields (field_texts text) cause
 two_refused f xs d text cause cut some few h =
     let P : List (List ℕ) → Type 0 = λ texts. RefusesFields texts cause in
     subst P (sym (pair_of f xs d d some few) ∙ cut) h
 
 -- the line on two fields is that of the text that they are
-pub pair_line : {X : Type 0} (f : X → List ℕ) (xs : List X) (d : X) (text line : List ℕ) → map f xs ≡ fields text → 2 ≤ length xs → length xs < 3 →
+pub pair_line : {X : Type 0} (f : X → List ℕ) (xs : List X) (d : X) (text line : List ℕ) → map f xs ≡ field_texts text → 2 ≤ length xs → length xs < 3 →
     (a : Bits) × (b : Bits) × IsReadable (f (get_or xs 0 d)) a × IsReadable (f (get_or xs 1 d)) b × IsLineOn a b line → IsVerdictLine text line
 pair_line f xs d text line cut some few (a, b, first, second, (v, is, as_line, near)) =
     (a, b, v, parts_pair f xs d text a b cut some few first second, is, as_line, near)
 
 -- and why there is none is why there is none of the text
-pub pair_refused : {X : Type 0} (f : X → List ℕ) (xs : List X) (d : X) (text : List ℕ) (e : Unjudged) → map f xs ≡ fields text → 2 ≤ length xs → length xs < 3 →
-    IsUnjudged (RefusesFields (f (get_or xs 0 d) ∷ (f (get_or xs 1 d) ∷ []))) e → RefusesInput (λ cause. RefusesFields (fields text) cause) (judging_refusal e)
+pub pair_refused : {X : Type 0} (f : X → List ℕ) (xs : List X) (d : X) (text : List ℕ) (e : Unjudged) → map f xs ≡ field_texts text → 2 ≤ length xs → length xs < 3 →
+    IsUnjudged (RefusesFields (f (get_or xs 0 d) ∷ (f (get_or xs 1 d) ∷ []))) e → RefusesInput (λ cause. RefusesFields (field_texts text) cause) (judging_refusal e)
 pair_refused f xs d text (unjudged.Input cause) cut some few h = inr (cause, two_refused f xs d text cause cut some few h, refl)
 pair_refused f xs d text unjudged.OutOfMemory cut some few h = inl refl
 

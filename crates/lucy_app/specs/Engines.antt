@@ -4,7 +4,7 @@ use Rattle.lucy_text.specs.Outside.{SeenSink}
 use Rattle.lucy_run.specs.Engines.{Asked, AsksOnce, AsksFor, FailsInPiece}
 use Rattle.lucy_command.specs.Commands.{Command, Run}
 use Rattle.lucy_app.specs.Commands.{inferring_options}
-use Rattle.lucy_app.specs.World.{World, Given, Meets}
+use Rattle.lucy_app.specs.World.{World, Given, HasMet}
 use Rattle.lucy_app.specs.Answers.{printed, no_command, out_of_memory}
 use Rattle.lucy_app.specs.Running.{OfProgram}
 use Rattle.lucy_app.specs.Owes.{Owes, OwesOutput}
@@ -39,7 +39,7 @@ StopsInPiece command given asked asked' out out' = Unit {0}
 -- input may have been read where a write of a line failed
 abbrev pub EndsPlayed : Command → (asked asked' : Option (List Asked)) (before after : World) (status : ℕ) → Type 0
 EndsPlayed command asked asked' before after status =
-    (given : Given) × Meets command before after given × AsksEngine command given asked asked' status
+    (given : Given) × HasMet command before after given × AsksEngine command given asked asked' status
     × EndsBy (Owes command given) (MayStand command given)
     (λ output. OwesOutput command given output × StopsInPiece command given asked asked' before.out after.out)
     before.out after.out before.err after.err status

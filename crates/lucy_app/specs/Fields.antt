@@ -4,5 +4,5 @@ use Rattle.std.specs.List.{slice_split, filter}
 use Rattle.lucy_fields.specs.Fields.{is_blank}
 
 -- the pieces between blanks, but for the empty ones
-abbrev pub fields : List ℕ → List (List ℕ)
-fields text = filter (λ piece. not (length piece == 0)) (slice_split is_blank text)
+abbrev pub field_texts : List ℕ → List (List ℕ)
+field_texts text = filter (λ piece. not (length piece == 0)) (slice_split is_blank text)

@@ -9,13 +9,13 @@ use Rattle.lucy_check.specs.Horizon.{AreFar}
 use Rattle.lucy_check.specs.Verdicts.{IsVerdict}
 use Rattle.lucy_check.specs.declared.verdict.Verdict.{Verdict}
 use Rattle.lucy_check.specs.declared.verdict.Verdict.TheVariants.{Adaptable, Rates, Late}
-use Rattle.lucy_app.specs.Fields.{fields}
+use Rattle.lucy_app.specs.Fields.{field_texts}
 use Rattle.lucy_app.specs.declared.input_refusal.InputCause.{InputCause}
 use Rattle.lucy_app.specs.declared.input_refusal.InputCause.TheVariants.{Count, BadWord, NoOne, Limit}
 
 -- the text is two fields, and they are read as these words
 abbrev pub IsPair : List ℕ → Bits → Bits → Type 0
-IsPair text a b = (u : List ℕ) × (v : List ℕ) × (fields text ≡ u ∷ v ∷ []) × IsReadable u a × IsReadable v b
+IsPair text a b = (u : List ℕ) × (v : List ℕ) × (field_texts text ≡ u ∷ v ∷ []) × IsReadable u a × IsReadable v b
 
 -- the line of a verdict
 abbrev pub verdict_line : Verdict → List ℕ

@@ -17,7 +17,7 @@ use Rattle.lucy_command.specs.Commands.{ProgramWords, Command, Order, Show, Type
 use Rattle.lucy_app.specs.Commands.{written_options, inferring_options, HasText}
 use Rattle.lucy_app.specs.World.{Given}
 use Rattle.lucy_app.specs.Answers.{Answer, OutputOf, printed, read_fault, limit_passed, input_refused}
-use Rattle.lucy_app.specs.Fields.{fields}
+use Rattle.lucy_app.specs.Fields.{field_texts}
 use Rattle.lucy_app.specs.Order.{IsVerdictLine, RefusesFields}
 use Rattle.lucy_app.specs.Show.{IsPrintOf}
 use Rattle.lucy_app.specs.Types.{IsReportOf}
@@ -32,7 +32,7 @@ use Rattle.lucy_app.specs.declared.input_refusal.InputCause.{InputCause}
 abbrev pub OwesOrder : (taken : List ℕ) → ReadStop → Answer → Type 0
 OwesOrder taken Ended answer =
     ((line : List ℕ) × IsVerdictLine taken line × (answer ≡ printed line))
-    ⊎ ((cause : InputCause) × RefusesFields (fields taken) cause × (answer ≡ input_refused cause))
+    ⊎ ((cause : InputCause) × RefusesFields (field_texts taken) cause × (answer ≡ input_refused cause))
 OwesOrder taken Failed answer = answer ≡ read_fault
 OwesOrder taken Passed answer = answer ≡ limit_passed limit.OrderInput
 OwesOrder taken stop answer = ⊥

@@ -4,7 +4,7 @@ ghost use Rattle.lucy_word.specs.Bits.{Bits};
 ghost use Rattle.lucy_word.specs.Limits.{limit_number};
 ghost use Rattle.lucy_word.specs.Reading.{IsReadable};
 ghost use Rattle.lucy_word.specs.declared.limit.Limit.TheVariants as limit;
-ghost use Rattle.lucy_app.specs.Fields.{fields};
+ghost use Rattle.lucy_app.specs.Fields.{field_texts};
 ghost use Rattle.lucy_check.specs.Horizon.{AreFar};
 ghost use Rattle.lucy_app.specs.Order.{IsVerdictLine, RefusesWord, RefusesFields, verdict_line};
 ghost use Rattle.lucy_app.specs.declared.order.Unjudged.TheVariants as unjudged;
@@ -100,7 +100,7 @@ fn verdict_of(alloc: Global, first: &[u8], second: &[u8]) -> Result<Vec<u8>, Unj
 // The line on the two words that the text is, unless too many instants decide about them.
 fn verdict_on(alloc: Global, text: &[u8]) -> Result<Vec<u8>, Refusal>
     ensures ok { IfOk result (λ v. IsVerdictLine text.now v.items) }
-    ensures refused { IfErr result (RefusesInput (RefusesFields (fields text.now))) }
+    ensures refused { IfErr result (RefusesInput (RefusesFields (field_texts text.now))) }
 {
     let fields = fields(alloc, text)?;
     let [first, second] = fields.as_slice() else {

@@ -22,7 +22,7 @@ use Rattle.lucy_token.specs.Spelled.{Printed, in_print}
 use Rattle.lucy_grammar.specs.Printable.{IsPrintableDef, IsPrintableDecl, AllOfSome, Anywhere}
 use Rattle.lucy_grammar.proofs.PrintableLaws.{Goods}
 use Rattle.lucy_grammar.proofs.Cores.{core, core-append, core-parens, put, put_after, put_operand, put_later, put_parens, first_defs, flat_link, flat, token_of, all_flat, some_flat, flats}
-use Rattle.lucy_grammar.specs.Symbols.{Rule, Val, Vals, Link, Part, Program, Node, Title, Params, Results, Names, Ident, MoreName, Body, Decls, MoreDecl, Decl, Typing, TypeName, ClockOf, Defs, Def, MoreDef, Lefts, Expr, Or, MoreAnd, And, MoreCmp, Cmp, Compared, CmpOp, Sum, MoreProd, SumOp, Prod, MoreSamp, ProdOp, Samp, Sampling, Pre, Followed, Form, Buffered, Held, Other, Atom, Small, Lit, Pair, Call, Applied, Base, Args, MoreExpr}
+use Rattle.lucy_grammar.specs.Symbols.{Rule, Val, Vals, Operation, Part, Program, Node, Title, Params, Results, Names, Ident, MoreName, Body, Decls, MoreDecl, Decl, Typing, TypeName, ClockOf, Defs, Def, MoreDef, Lefts, Expr, Or, MoreAnd, And, MoreCmp, Cmp, Compared, CmpOp, Sum, MoreProd, SumOp, Prod, MoreSamp, ProdOp, Samp, Sampling, Pre, Followed, Form, Buffered, Held, Other, Atom, Small, Lit, Pair, Call, Applied, Base, Args, MoreExpr}
 use Rattle.lucy_grammar.specs.Meanings.{name_bytes, token_name, token_literal, token_word, token_bound, linked, grouped, sampled_by, literal_before, named, held_by}
 use Rattle.lucy_grammar.specs.Grammar.{rules}
 use Rattle.lucy_grammar.specs.Parens.{kept}
@@ -52,12 +52,12 @@ exprs_flat : (es : List Tree) → core (after_commas (all_printed (trees_of es))
 exprs_flat [] = refl
 exprs_flat (e ∷ es) = ap (λ u. what.Mark mark.Comma ∷ u) (put_after blank (printed e) (after_commas (all_printed (trees_of es))) _ (exprs_flat es))
 
-linked_flat : (e : Tree) (l : Link) → core (printed (linked e l)) ≡ core (printed e) ++ flat_link l
+linked_flat : (e : Tree) (l : Operation) → core (printed (linked e l)) ≡ core (printed e) ++ flat_link l
 linked_flat e l =
     put_operand e (in_print blank (what.Mark (op_mark l.op)) ∷ (after blank (operand l.right (printed l.right)) ++ [])) (flat_link l)
     (ap (λ u. kept (what.Mark (op_mark l.op)) ++ u) (put_later l.right [] [] refl ∙ append-nil (core (printed l.right))))
 
-grouped_flat : (e : Tree) (ls : List Link) → core (printed (grouped e ls)) ≡ core (printed e) ++ all_flat flat_link ls
+grouped_flat : (e : Tree) (ls : List Operation) → core (printed (grouped e ls)) ≡ core (printed e) ++ all_flat flat_link ls
 grouped_flat e [] = plus (core (printed e))
 grouped_flat e (l ∷ ls) = grouped_flat (linked e l) ls ∙ ap (λ u. u ++ all_flat flat_link ls) (linked_flat e l) ∙ append_assoc (core (printed e)) (flat_link l) (all_flat flat_link ls)
 
@@ -68,10 +68,10 @@ sampled_flat e ((flip, w) ∷ ws) =
     sampled_flat (sampled flip e w) ws ∙ ap (λ u. u ++ all_flat (flat Sampling) ws) one ∙ append_assoc (core (printed e)) (flat Sampling (flip, w)) (all_flat (flat Sampling) ws)
 
 -- with nothing behind them
-grouped_rule : (e : Tree) (ls : List Link) → core (printed (grouped e ls)) ≡ core (printed e) ++ (all_flat flat_link ls ++ [])
+grouped_rule : (e : Tree) (ls : List Operation) → core (printed (grouped e ls)) ≡ core (printed e) ++ (all_flat flat_link ls ++ [])
 grouped_rule e ls = grouped_flat e ls ∙ ap (λ u. core (printed e) ++ u) (plus (all_flat flat_link ls))
 
-compared_rule : (e : Tree) (o : Option Link) → core (printed (option_map_or (linked e) o e)) ≡ core (printed e) ++ (some_flat flat_link o ++ [])
+compared_rule : (e : Tree) (o : Option Operation) → core (printed (option_map_or (linked e) o e)) ≡ core (printed e) ++ (some_flat flat_link o ++ [])
 compared_rule e None = plus (core (printed e))
 compared_rule e (Some l) = linked_flat e l ∙ ap (λ u. core (printed e) ++ u) (plus (flat_link l))
 

@@ -14,7 +14,7 @@ use Rattle.lucy_token.specs.declared.token.What.TheVariants as what
 use Rattle.lucy_token.specs.Spelled.{Printed, whats_of}
 use Rattle.lucy_token.specs.Marks.{op_mark}
 use Rattle.lucy_grammar.specs.Kinds.{sort_kind}
-use Rattle.lucy_grammar.specs.Symbols.{Sym, token, part, many, perhaps, Val, Vals, Link, Part, Program, Node, Title, Params, Results, Names, Ident, MoreName, Body, Decls, MoreDecl, Decl, Typing, TypeName, ClockOf, Defs, Def, MoreDef, Lefts, Expr, Or, MoreAnd, And, MoreCmp, Cmp, Compared, CmpOp, Sum, MoreProd, SumOp, Prod, MoreSamp, ProdOp, Samp, Sampling, Pre, Followed, Form, Buffered, Held, Other, Atom, Small, Lit, Pair, Call, Applied, Base, Args, MoreExpr}
+use Rattle.lucy_grammar.specs.Symbols.{Sym, token, part, many, perhaps, Val, Vals, Operation, Part, Program, Node, Title, Params, Results, Names, Ident, MoreName, Body, Decls, MoreDecl, Decl, Typing, TypeName, ClockOf, Defs, Def, MoreDef, Lefts, Expr, Or, MoreAnd, And, MoreCmp, Cmp, Compared, CmpOp, Sum, MoreProd, SumOp, Prod, MoreSamp, ProdOp, Samp, Sampling, Pre, Followed, Form, Buffered, Held, Other, Atom, Small, Lit, Pair, Call, Applied, Base, Args, MoreExpr}
 use Rattle.lucy_grammar.specs.Meanings.{name_bytes, token_literal, token_word}
 use Rattle.lucy_grammar.specs.Parens.{kept, without_parens}
 use Rattle.lucy_grammar.specs.PrintTokens.{blank, the, after, spaced, commas, parens, name_token, lit_token, when_mark, operand, printed, all_printed, type_mark, typing, clock, printed_decl, printed_def, more_defs, printed_body, printed_node, printed_program}
@@ -66,7 +66,7 @@ abbrev pub based : Option Bits → List What
 based None = []
 based (Some w) = what.Mark mark.At ∷ what.Word w ∷ []
 
-abbrev pub flat_link : Link → List What
+abbrev pub flat_link : Operation → List What
 flat_link l = kept (what.Mark (op_mark l.op)) ++ core (printed l.right)
 
 abbrev pub flat_bound : Option ℕ → List What

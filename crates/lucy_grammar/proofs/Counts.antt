@@ -16,7 +16,7 @@ use Rattle.lucy_token.specs.declared.state.Side.{Side}
 use Rattle.lucy_token.specs.declared.state.Side.TheVariants as side
 use Rattle.lucy_token.specs.declared.state.Level.{Level}
 use Rattle.lucy_token.specs.Tokens.{kind_of}
-use Rattle.lucy_token.specs.Before.{past}
+use Rattle.lucy_token.specs.Before.{limit_past}
 use Rattle.lucy_token.specs.States.{ScanState, after, closed, side_after, side_defined, counted_after, nodes_after, past_tokens, limit_passed}
 use Rattle.lucy_grammar.specs.Parens.{without_parens}
 use Rattle.lucy_grammar.proofs.CutLimits.{AllPass}
@@ -103,14 +103,14 @@ counted_on s (kind.Mark mark.Close) = counted_closed s s.outer
 counted_on s k = count_eq _ _ _ _ (nodes_after s.nodes k) (same_head s.side s.before k) (same_tokens s.side s.counted k)
 
 -- a token that passes no limit may be counted; one that may be counted passes no limit, if it opens no parenthesis too many
-none_past : (l : Limit) (n : ℕ) → past l n ≡ None → not (nat_le (limit_number l) n) ≡ true
+none_past : (l : Limit) (n : ℕ) → limit_past l n ≡ None → not (nat_le (limit_number l) n) ≡ true
 none_past l n e = of (nat_le (limit_number l) n) e
   where
     of : (b : Bool) → ◌≡◌ {A = Option Limit} (if b then Some l else None) None → not b ≡ true
     of true e = absurd cc
     of false e = refl
 
-past_none : (l : Limit) (n : ℕ) → not (nat_le (limit_number l) n) ≡ true → past l n ≡ None
+past_none : (l : Limit) (n : ℕ) → not (nat_le (limit_number l) n) ≡ true → limit_past l n ≡ None
 past_none l n e = of (nat_le (limit_number l) n) e
   where
     of : (b : Bool) → not b ≡ true → ◌≡◌ {A = Option Limit} (if b then Some l else None) None

@@ -11,7 +11,7 @@ use Rattle.lucy_token.specs.declared.token.Kind.TheVariants as kind
 use Rattle.lucy_token.specs.declared.state.Side.TheVariants as side
 use Rattle.lucy_token.specs.States.{ScanState, after, side_defined, is_past_last}
 use Rattle.lucy_grammar.specs.Kinds.{sort_kind}
-use Rattle.lucy_grammar.specs.Symbols.{Sym, token, part, many, perhaps, Val, Vals, Link, Rule, Part, Program, Node, Title, Params, Results, Names, Ident, MoreName, Body, Decls, MoreDecl, Decl, Typing, TypeName, ClockOf, Defs, Def, MoreDef, Lefts, Expr, Or, MoreAnd, And, MoreCmp, Cmp, Compared, CmpOp, Sum, MoreProd, SumOp, Prod, MoreSamp, ProdOp, Samp, Sampling, Pre, Followed, Form, Buffered, Held, Other, Atom, Small, Lit, Pair, Call, Applied, Base, Args, MoreExpr}
+use Rattle.lucy_grammar.specs.Symbols.{Sym, token, part, many, perhaps, Val, Vals, Operation, Rule, Part, Program, Node, Title, Params, Results, Names, Ident, MoreName, Body, Decls, MoreDecl, Decl, Typing, TypeName, ClockOf, Defs, Def, MoreDef, Lefts, Expr, Or, MoreAnd, And, MoreCmp, Cmp, Compared, CmpOp, Sum, MoreProd, SumOp, Prod, MoreSamp, ProdOp, Samp, Sampling, Pre, Followed, Form, Buffered, Held, Other, Atom, Small, Lit, Pair, Call, Applied, Base, Args, MoreExpr}
 use Rattle.lucy_grammar.proofs.Levels.{Keeps, IsDue}
 
 abbrev pub most : ℕ
@@ -50,7 +50,7 @@ pub record ReadsExpr (s : ScanState) (v : Tree) (j : ScanState) : Type 0 where
 abbrev pub ExprSpec : ScanState → Tree → ScanState → Type 0
 ExprSpec s v j = s.side ≡ side.Right → ReadsExpr s v j
 
-abbrev pub LinkSpec : ScanState → Link → ScanState → Type 0
+abbrev pub LinkSpec : ScanState → Operation → ScanState → Type 0
 LinkSpec s l j = s.side ≡ side.Right → Keeps s j × IsFew l.right
 
 pub record ReadsArgs (s : ScanState) (v : Trees) (j : ScanState) : Type 0 where

@@ -16,7 +16,7 @@ use Rattle.lucy_token.specs.declared.state.Side.{Side}
 use Rattle.lucy_token.specs.declared.state.Side.TheVariants as side
 use Rattle.lucy_token.specs.States.{ScanState, after, side_defined, begins_entry, is_past_last}
 use Rattle.lucy_token.proofs.StateLaws.{before_after}
-use Rattle.lucy_grammar.specs.Symbols.{Val, Link, Body, Decls, Typing, ClockOf, Sampling, Followed, Held, Lit, Applied, Base, Args, MoreExpr}
+use Rattle.lucy_grammar.specs.Symbols.{Val, Operation, Body, Decls, Typing, ClockOf, Sampling, Followed, Held, Lit, Applied, Base, Args, MoreExpr}
 use Rattle.lucy_grammar.specs.Meanings.{linked, grouped, sampled_by, literal_before, named, held_by, token_bound, token_literal}
 use Rattle.lucy_grammar.proofs.Levels.{Keeps, keeps_self, keeps_then, keeps_plain, is_plain, IsDue, due_right, opened, no_commas, opened_right, opened_still, IsStill, closed_after, keeps_parens, one_on, few_before}
 use Rattle.lucy_grammar.proofs.FewEntries.{most, IsFew, AreFew, IsFewDef, ReadsExpr, ExprSpec, LinkSpec, ReadsArgs, ReadsCall, ReadsDecl, ReadsMore, ReadsList, ReadsLefts, Spec, Chain, Maybe}
@@ -116,13 +116,13 @@ expr_after s j v k e c r =
 pub link_read : (s m j : ScanState) (v : Tree) → Keeps s m → ExprSpec m v j → s.side ≡ side.Right → Keeps s j × IsFew v
 link_read s m j v k c r = let x = c (k.at ∙ r) in (keeps_then k x.keeps, x.few)
 
-pub grouped_read : (s m j : ScanState) (e : Tree) (ls : List Link) → s.side ≡ side.Right → ReadsExpr s e m → Chain LinkSpec m ls j → ReadsExpr s (grouped e ls) j
+pub grouped_read : (s m j : ScanState) (e : Tree) (ls : List Operation) → s.side ≡ side.Right → ReadsExpr s e m → Chain LinkSpec m ls j → ReadsExpr s (grouped e ls) j
 grouped_read s m j e [] r x c = subst (ReadsExpr s e) (sym c) x
 grouped_read s m j e (l ∷ ls) r x c =
     let y = c.1 (x.keeps.at ∙ r) in
     grouped_read s c.0 j (linked e l) ls r (record { first = x.first; keeps = keeps_then x.keeps y.0; few = (x.few, (y.1, tt)) }) c.2
 
-pub compared_read : (s m j : ScanState) (e : Tree) (o : Option Link) → s.side ≡ side.Right → ReadsExpr s e m → Maybe LinkSpec m o j → ReadsExpr s (option_map_or (linked e) o e) j
+pub compared_read : (s m j : ScanState) (e : Tree) (o : Option Operation) → s.side ≡ side.Right → ReadsExpr s e m → Maybe LinkSpec m o j → ReadsExpr s (option_map_or (linked e) o e) j
 compared_read s m j e None r x c = subst (ReadsExpr s e) (sym c) x
 compared_read s m j e (Some l) r x c =
     let y = c (x.keeps.at ∙ r) in

@@ -3,7 +3,7 @@ use Rattle.std.proofs.Common.{◌≡◌, ◌<◌, Bool, true, List, [], ◌∷�
 use Rattle.lucy_word.specs.Bits.{Bits}
 use Rattle.lucy_tree.specs.Tree.{Tree, Trees, more, sampled, trees_of, list_of}
 use Rattle.lucy_token.specs.declared.token.Token.{Token}
-use Rattle.lucy_grammar.specs.Symbols.{Part, part, many, Rule, Val, Link, Program, Node, Names, Ident, MoreName, Decls, MoreDecl, Decl, Defs, Def, MoreDef, Expr, Or, MoreAnd, And, MoreCmp, Cmp, Sum, MoreProd, Prod, MoreSamp, Samp, Sampling, Pre, Args, MoreExpr}
+use Rattle.lucy_grammar.specs.Symbols.{Part, part, many, Rule, Val, Operation, Program, Node, Names, Ident, MoreName, Decls, MoreDecl, Decl, Defs, Def, MoreDef, Expr, Or, MoreAnd, And, MoreCmp, Cmp, Sum, MoreProd, Prod, MoreSamp, Samp, Sampling, Pre, Args, MoreExpr}
 use Rattle.lucy_grammar.specs.Meanings.{linked, grouped, sampled_by}
 use Rattle.lucy_grammar.specs.Grammar.{rules, says}
 use Rattle.lucy_grammar.specs.Reading.{follows, begins, Takes, BreaksAt, Reads, Unfit, IsBegun}
@@ -87,7 +87,7 @@ args_from e es = more e (trees_of es)
 abbrev pub put_tree : Trees → Tree → Trees
 put_tree ts t = trees_of (list_of ts ++ t ∷ [])
 
-grouped_push : (one : Tree) (read : List Link) (v : Link) → grouped one (read ++ v ∷ []) ≡ linked (grouped one read) v
+grouped_push : (one : Tree) (read : List Operation) (v : Operation) → grouped one (read ++ v ∷ []) ≡ linked (grouped one read) v
 grouped_push one [] v = refl
 grouped_push one (x ∷ read) v = grouped_push (linked one x) read v
 

@@ -18,7 +18,7 @@ use Rattle.lucy_token.specs.declared.token.Token.{Token}
 use Rattle.lucy_token.specs.Tokens.{kind_of}
 use Rattle.lucy_grammar.specs.Kinds.{is_bound, Fits, bound, sort_kind}
 use Rattle.lucy_grammar.proofs.Numbers.{fits_kind}
-use Rattle.lucy_grammar.specs.Symbols.{Sym, token, part, many, perhaps, Rule, Val, Vals, Link, Part, Program, Node, Title, Params, Results, Names, Ident, MoreName, Body, Decls, MoreDecl, Decl, Typing, TypeName, ClockOf, Defs, Def, MoreDef, Lefts, Expr, Or, MoreAnd, And, MoreCmp, Cmp, Compared, CmpOp, Sum, MoreProd, SumOp, Prod, MoreSamp, ProdOp, Samp, Sampling, Pre, Followed, Form, Buffered, Held, Other, Atom, Small, Lit, Pair, Call, Applied, Base, Args, MoreExpr}
+use Rattle.lucy_grammar.specs.Symbols.{Sym, token, part, many, perhaps, Rule, Val, Vals, Operation, Part, Program, Node, Title, Params, Results, Names, Ident, MoreName, Body, Decls, MoreDecl, Decl, Typing, TypeName, ClockOf, Defs, Def, MoreDef, Lefts, Expr, Or, MoreAnd, And, MoreCmp, Cmp, Compared, CmpOp, Sum, MoreProd, SumOp, Prod, MoreSamp, ProdOp, Samp, Sampling, Pre, Followed, Form, Buffered, Held, Other, Atom, Small, Lit, Pair, Call, Applied, Base, Args, MoreExpr}
 use Rattle.lucy_grammar.specs.Meanings.{name_bytes, token_name, token_literal, token_word, token_bound, linked, grouped, sampled_by, literal_before, named, held_by}
 use Rattle.lucy_grammar.specs.Grammar.{rules}
 use Rattle.lucy_grammar.specs.Deriving.{Deriv, done, take, by_rule, enough, again, absent, present, spelled, value}
@@ -30,7 +30,7 @@ use Rattle.lucy_grammar.specs.Printable.{MayBeNamed, IsLit, MayHaveBound, IsWord
 use Rattle.lucy_grammar.proofs.Deriving.{derived}
 
 -- an operator and its right operand, a list of two or more, and an entry that may be missing
-abbrev pub IsLink : (Kind → What → Type 0) → Link → Type 0
+abbrev pub IsLink : (Kind → What → Type 0) → Operation → Type 0
 IsLink Q l = (2 ≡ arity l.op) × IsPrintable Q l.right
 
 abbrev pub AreSeveral : List decl.Decl → Type 0
@@ -152,7 +152,7 @@ trees_good : (Q : Kind → What → Type 0) (es : List Tree) → AllByRecursion 
 trees_good Q [] h = tt
 trees_good Q (e ∷ es) h = (h.0, trees_good Q es h.1)
 
-grouped_good : (Q : Kind → What → Type 0) (e : Tree) (ls : List Link) → IsPrintable Q e → AllByRecursion (IsLink Q) ls → IsPrintable Q (grouped e ls)
+grouped_good : (Q : Kind → What → Type 0) (e : Tree) (ls : List Operation) → IsPrintable Q e → AllByRecursion (IsLink Q) ls → IsPrintable Q (grouped e ls)
 grouped_good Q e [] g h = g
 grouped_good Q e (l ∷ ls) g h = grouped_good Q (linked e l) ls (h.0.0, (g, (h.0.1, tt))) h.1
 
@@ -160,7 +160,7 @@ sampled_good : (Q : Kind → What → Type 0) (e : Tree) (ws : List (Bool × Bit
 sampled_good Q e [] g h = g
 sampled_good Q e ((flip, w) ∷ ws) g h = sampled_good Q _ ws (g, h.0) h.1
 
-compared_good : (Q : Kind → What → Type 0) (e : Tree) (o : Option Link) → IsPrintable Q e → InOption (IsLink Q) o → IsPrintable Q (option_map_or (linked e) o e)
+compared_good : (Q : Kind → What → Type 0) (e : Tree) (o : Option Operation) → IsPrintable Q e → InOption (IsLink Q) o → IsPrintable Q (option_map_or (linked e) o e)
 compared_good Q e None g h = g
 compared_good Q e (Some l) g h = (h.0, (g, (h.1, tt)))
 

@@ -7,14 +7,14 @@ use Rattle.lucy_word.specs.Bits.{Bits}
 use Rattle.lucy_tree.specs.Tree.{Tree, Trees, trees_of, more, no_more}
 use Rattle.lucy_token.specs.declared.token.Token.{Token}
 use Rattle.lucy_grammar.specs.Kinds.{Fits}
-use Rattle.lucy_grammar.specs.Symbols.{Part, Sym, token, part, many, perhaps, Rule, Val, Vals, Link, Program, Node, Title, Params, Results, Names, Ident, MoreName, Body, Decls, MoreDecl, Decl, Typing, TypeName, ClockOf, Defs, Def, MoreDef, Lefts, Expr, Or, MoreAnd, And, MoreCmp, Cmp, Compared, CmpOp, Sum, MoreProd, SumOp, Prod, MoreSamp, ProdOp, Samp, Sampling, Pre, Followed, Form, Buffered, Held, Other, Atom, Small, Lit, Pair, Call, Applied, Base, Args, MoreExpr}
+use Rattle.lucy_grammar.specs.Symbols.{Part, Sym, token, part, many, perhaps, Rule, Val, Vals, Operation, Program, Node, Title, Params, Results, Names, Ident, MoreName, Body, Decls, MoreDecl, Decl, Typing, TypeName, ClockOf, Defs, Def, MoreDef, Lefts, Expr, Or, MoreAnd, And, MoreCmp, Cmp, Compared, CmpOp, Sum, MoreProd, SumOp, Prod, MoreSamp, ProdOp, Samp, Sampling, Pre, Followed, Form, Buffered, Held, Other, Atom, Small, Lit, Pair, Call, Applied, Base, Args, MoreExpr}
 use Rattle.lucy_grammar.specs.Meanings.{linked, grouped, sampled_by, literal_before, named, token_name, held_by, token_bound, token_literal}
 use Rattle.lucy_grammar.specs.Grammar.{rules}
 use Rattle.lucy_grammar.specs.Deriving.{Deriv, done, take, by_rule, enough, again, absent, present, spelled, value}
 use Rattle.lucy_grammar.proofs.Tokens.{same_pair}
 use Rattle.lucy_grammar.specs.Spans.{nowhere, unplaced_token, unplaced_name, unplaced_decl, unplaced, all_unplaced, unplaced_def, unplaced_node, unplaced_program}
 
-abbrev pub unplaced_link : Link → Link
+abbrev pub unplaced_link : Operation → Operation
 unplaced_link l = record { op = l.op; span = nowhere; right = unplaced l.right }
 
 abbrev pub in_option : {A B : Type 0} → (A → B) → Option A → Option B
@@ -90,7 +90,7 @@ abbrev AreBlind : (X : Part) → List (Rule X) → Type 0
 AreBlind X [] = Unit {0}
 AreBlind X (p ∷ ps) = IsBlind X p × AreBlind X ps
 
-grouped_bare : (e : Tree) (ls : List Link) → unplaced (grouped e ls) ≡ grouped (unplaced e) (map unplaced_link ls)
+grouped_bare : (e : Tree) (ls : List Operation) → unplaced (grouped e ls) ≡ grouped (unplaced e) (map unplaced_link ls)
 grouped_bare e [] = refl
 grouped_bare e (l ∷ ls) = grouped_bare (linked e l) ls
 
@@ -102,7 +102,7 @@ trees_bare : (es : List Tree) → all_unplaced (trees_of es) ≡ trees_of (map u
 trees_bare [] = refl
 trees_bare (e ∷ es) = ap (λ u. more (unplaced e) u) (trees_bare es)
 
-compared_blind : (e : Tree) (l : Option Link) → unplaced (option_map_or (linked e) l e) ≡ option_map_or (linked (unplaced e)) (in_option unplaced_link l) (unplaced e)
+compared_blind : (e : Tree) (l : Option Operation) → unplaced (option_map_or (linked e) l e) ≡ option_map_or (linked (unplaced e)) (in_option unplaced_link l) (unplaced e)
 compared_blind e None = refl
 compared_blind e (Some l) = refl
 

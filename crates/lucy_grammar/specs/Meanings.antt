@@ -10,7 +10,7 @@ use Rattle.lucy_tree.specs.Tree.{Tree, Trees, literal, variable, operator, sampl
 use Rattle.lucy_token.specs.declared.token.What.{What}
 use Rattle.lucy_token.specs.declared.token.What.TheVariants as what
 use Rattle.lucy_token.specs.declared.token.Token.{Token}
-use Rattle.lucy_grammar.specs.Symbols.{Link}
+use Rattle.lucy_grammar.specs.Symbols.{Operation}
 
 -- the bytes of a name's token
 abbrev pub name_bytes : What → List ℕ
@@ -41,11 +41,11 @@ abbrev pub two : Tree → Tree → Trees
 two a b = more a (more b no_more)
 
 -- an operator between two operands
-abbrev pub linked : Tree → Link → Tree
+abbrev pub linked : Tree → Operation → Tree
 linked left link = operator link.op (two left link.right) link.span
 
 -- operands with operators between them: they group to the left
-abbrev pub grouped : Tree → List Link → Tree
+abbrev pub grouped : Tree → List Operation → Tree
 grouped left links = fold linked left links
 
 -- an operand with its samplings, the first one innermost

@@ -32,7 +32,7 @@ abbrev pub any : Kind → Sym
 any k = token (of k)
 
 -- an operator with its place, and the operand to its right
-pub record Link : Type 0 where
+pub record Operation : Type 0 where
   pub op : Op
   pub span : Span
   pub right : Tree
@@ -58,13 +58,13 @@ Val Defs = List DefTree
 Val Def = DefTree
 Val MoreDef = DefTree
 Val Lefts = List decl.Decl
-Val MoreAnd = Link
-Val MoreCmp = Link
-Val Compared = Link
+Val MoreAnd = Operation
+Val MoreCmp = Operation
+Val Compared = Operation
 Val CmpOp = Op × Span
-Val MoreProd = Link
+Val MoreProd = Operation
 Val SumOp = Op × Span
-Val MoreSamp = Link
+Val MoreSamp = Operation
 Val ProdOp = Op × Span
 Val Sampling = Bool × Bits
 Val Followed = Span × Tree

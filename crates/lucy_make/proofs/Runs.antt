@@ -14,7 +14,7 @@ use Rattle.lucy_run.specs.declared.ending.Ending.{Ending}
 use Rattle.lucy_run.specs.declared.ending.Ending.TheVariants as ending
 use Rattle.lucy_run.specs.Courses.{CourseView, Program, CanBeRunInBlocks, values, IsCourseBegun, IsAlong, IsCourseUnderWay, IsCourseOver}
 use Rattle.lucy_make.specs.Text.{made_input}
-use Rattle.lucy_make.specs.Figures.{sum_of, slots_of, net_lines, run_lines, figures}
+use Rattle.lucy_make.specs.Figures.{sum_of, net_slots, net_lines, run_lines, figures}
 use Rattle.lucy_make.specs.Owes.{printed_values, where_done, OwesSummary}
 use Rattle.lucy_make.specs.Blocks.{first_to, IsBeforeFirst, TellsFirstResult, FirstAgrees, steady, RunsOut, IsMadeRun, IsDone, IsUndone}
 use Rattle.lucy_make.specs.declared.summing.Told.{Told}
@@ -110,7 +110,7 @@ module _ (kinds : List HostKind) (a : Accepted) where
 
   -- where it is, its figures do
   pub figured : (stages actors rings slots instants count : ℕ) (sum : ℤ) (text : List ℕ) → IsMadeRun kinds a instants count sum ending.Done →
-      actors ≡ length a.net.actors → rings ≡ length a.net.rings → slots ≡ slots_of a.net.rings →
+      actors ≡ length a.net.actors → rings ≡ length a.net.rings → slots ≡ net_slots a.net.rings →
       text ≡ net_lines stages actors rings slots ++ run_lines instants count sum → OwesSummary stages kinds a text ending.Done
   figured stages actors rings slots instants count sum text (stop, lists, fault, whole, fed, ends, counted, summed) of_actors of_rings of_slots is =
       let of_net = ap (λ n. net_lines stages n rings slots) of_actors ∙ ap (λ n. net_lines stages (length a.net.actors) n slots) of_rings ∙ ap (net_lines stages (length a.net.actors) (length a.net.rings)) of_slots in
@@ -122,5 +122,5 @@ module _ (kinds : List HostKind) (a : Accepted) where
         whole,
         fed,
         ends,
-        is ∙ ap (λ xs. xs ++ run_lines instants count sum) of_net ∙ ap (λ xs. net_lines stages (length a.net.actors) (length a.net.rings) (slots_of a.net.rings) ++ xs) of_run,
+        is ∙ ap (λ xs. xs ++ run_lines instants count sum) of_net ∙ ap (λ xs. net_lines stages (length a.net.actors) (length a.net.rings) (net_slots a.net.rings) ++ xs) of_run,
       )

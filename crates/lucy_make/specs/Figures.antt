@@ -10,8 +10,8 @@ abbrev pub sum_of : List ℤ → ℤ
 sum_of values = wrapped (fold ◌+ℤ◌ (pos 0) values)
 
 -- the slots of rings, of which each has one more than its size
-abbrev pub slots_of : List RingSpec → ℕ
-slots_of rings = sum_by (λ ring. ring.size + 1) rings
+abbrev pub net_slots : List RingSpec → ℕ
+net_slots rings = sum_by (λ ring. ring.size + 1) rings
 
 -- the lines of a program of so many stages and its net, by their numbers
 abbrev pub net_lines : (stages actors rings slots : ℕ) → List ℕ
@@ -26,4 +26,4 @@ run_lines instants outputs sum =
 -- the seven lines of a run of so many stages, by this net, of so many instants, that prints these values
 abbrev pub figures : (stages : ℕ) → Net → (instants : ℕ) → (values : List ℤ) → List ℕ
 figures stages net instants values =
-    net_lines stages (length net.actors) (length net.rings) (slots_of net.rings) ++ run_lines instants (length values) (sum_of values)
+    net_lines stages (length net.actors) (length net.rings) (net_slots net.rings) ++ run_lines instants (length values) (sum_of values)

@@ -48,8 +48,8 @@ impl Tally {
 
 // The slots of rings, of which each has one more than its size.
 fn slots_of(rings: &[RingSpec]) -> u64
-    requires { spec.slots_of rings.now ≤ limit_number limit.Slots }
-    ensures { result ≡ spec.slots_of rings.now }
+    requires { spec.net_slots rings.now ≤ limit_number limit.Slots }
+    ensures { result ≡ spec.net_slots rings.now }
 {
     let mut slots = 0;
     'each: for ring in rings {
@@ -60,10 +60,10 @@ fn slots_of(rings: &[RingSpec]) -> u64
 
 /// Those of this net, which has at most 1,048,576 slots.
 pub(crate) fn counts_of(net: &Net) -> Counts
-    requires { spec.slots_of net.now.rings ≤ limit_number limit.Slots }
+    requires { spec.net_slots net.now.rings ≤ limit_number limit.Slots }
     ensures actors { result.actors ≡ length net.now.actors }
     ensures rings { result.rings ≡ length net.now.rings }
-    ensures slots { result.slots ≡ spec.slots_of net.now.rings }
+    ensures slots { result.slots ≡ spec.net_slots net.now.rings }
 {
     Counts {
         actors: net.actors.list().len(),

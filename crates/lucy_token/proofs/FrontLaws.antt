@@ -19,7 +19,7 @@ use Rattle.lucy_token.specs.declared.front.Front.{Front}
 use Rattle.lucy_token.specs.declared.front.Front.TheVariants.{Gap, Token, Bad}
 use Rattle.lucy_token.specs.Marks.{spelling, keywords, signs}
 use Rattle.lucy_token.specs.Before.{nearest, wants_word, operand_begins}
-use Rattle.lucy_token.specs.Fronts.{head, close_of, begins_gap, gap_of, plain_front, front_of, minus_of, is_letter, is_name_byte, sign_in, named_in}
+use Rattle.lucy_token.specs.Fronts.{head, close_of, begins_gap, gap_of, plain_front, token_front, minus_of, is_letter, is_name_byte, sign_in, named_in}
 use Rattle.lucy_token.specs.Scans.{word_front, scanned_front}
 use Rattle.lucy_token.specs.States.{ScanState, begins_operand}
 use Rattle.lucy_token.specs.Steps.{front_in, IsTokenOf}
@@ -155,7 +155,7 @@ by_parts wants operand text some =
     (λ e. cond_both wants (word_front text) (plain_front operand text) (IsFront text) (λ f. word_front_front text) (λ f. plain_front_front operand text))
 
 pub front : (ks : List Kind) (text : List ℕ) → 0 < length text → IsFront text (scanned_front ks text)
-unfolding front_of
+unfolding token_front
 front ks text some = by_parts (wants_word (nearest ks)) (operand_begins ks) text some
 
 -- the same of an answer that is the front

@@ -26,7 +26,7 @@ use Rattle.lucy_token.specs.declared.stop.Stop.TheVariants.{End}
 use Rattle.lucy_token.specs.Tokens.{kind_of}
 use Rattle.lucy_token.specs.Marks.{spelling}
 use Rattle.lucy_token.specs.Before.{nearest, wants_word, operand_begins}
-use Rattle.lucy_token.specs.Fronts.{head, is_name_byte, begins_gap, gap_of, close_of, plain_front, front_of}
+use Rattle.lucy_token.specs.Fronts.{head, is_name_byte, begins_gap, gap_of, close_of, plain_front, token_front}
 use Rattle.lucy_token.specs.Scans.{word_front, scanned_front, Scans, ends, gap, token}
 use Rattle.lucy_token.specs.Contents.{Contains}
 use Rattle.lucy_token.specs.Cuts.{token_at}
@@ -39,13 +39,13 @@ use Rattle.lucy_token.proofs.ScanLaws.{cut_of}
 
 -- the front of a text that begins neither with a blank nor with a comment
 front_plain : (ks : List Kind) (text : List ℕ) → begins_gap text ≡ false → wants_word (nearest ks) ≡ false → scanned_front ks text ≡ plain_front (operand_begins ks) text
-unfolding front_of
+unfolding token_front
 front_plain ks text h k =
     cond-false (begins_gap text) (gap_of text) (if wants_word (nearest ks) then word_front text else plain_front (operand_begins ks) text) h
     ∙ cond-false (wants_word (nearest ks)) (word_front text) (plain_front (operand_begins ks) text) k
 
 front_word : (ks : List Kind) (text : List ℕ) → begins_gap text ≡ false → wants_word (nearest ks) ≡ true → scanned_front ks text ≡ word_front text
-unfolding front_of
+unfolding token_front
 front_word ks text h k =
     cond-false (begins_gap text) (gap_of text) (if wants_word (nearest ks) then word_front text else plain_front (operand_begins ks) text) h
     ∙ cond-true (wants_word (nearest ks)) (word_front text) (plain_front (operand_begins ks) text) k
@@ -91,7 +91,7 @@ contains_printed before (what.Word w) h = (w, h, refl)
 
 -- blanks are passed
 blank_front : (ks : List Kind) (c : ℕ) (text : List ℕ) → is_blank c ≡ true → scanned_front ks (c ∷ text) ≡ Gap 1
-unfolding front_of gap_of
+unfolding token_front gap_of
 blank_front ks c text h =
     cond-true (begins_gap (c ∷ text)) (gap_of (c ∷ text)) _ (or_left (is_blank c) ((c == 40) && (head text == 42)) h)
     ∙ cond-true (is_blank c) (Gap 1) (option_map_or (λ n. Gap (n + 2)) (close_of (drop 2 (c ∷ text))) (Bad 0)) h

@@ -19,8 +19,8 @@ use Rattle.lucy_token.specs.declared.stop.Stop.{Stop}
 use Rattle.lucy_token.specs.declared.stop.Stop.TheVariants.{Fault}
 use Rattle.lucy_token.specs.declared.stop.SyntaxError.{SyntaxError}
 use Rattle.lucy_token.specs.Before.{nearest}
-use Rattle.lucy_token.specs.Fronts.{IsWordFront, front_of, HasFront}
-use Rattle.lucy_token.specs.Contents.{Contains, fault_of}
+use Rattle.lucy_token.specs.Fronts.{IsWordFront, token_front, HasFront}
+use Rattle.lucy_token.specs.Contents.{Contains, token_fault}
 use Rattle.lucy_token.specs.Cuts.{Cuts}
 use Rattle.lucy_token.specs.Cuts as cuts
 use Rattle.lucy_token.specs.Scans.{IsMalformed, word_front, scanned_front, Scans, ends, gap, bad, passed, past_last, malformed, token}
@@ -94,17 +94,17 @@ found ks text f some e = (some, word_front text, word_front_so text, sym e)
 
 -- what stands there is found
 finds : (ks : List Kind) (text : List ℕ) (f : Front) → HasFront ks text f → scanned_front ks text ≡ f
-finds ks text f h = ap (λ w. front_of ks w text) (one_word_front text (word_front text) h.1 (word_front_so text) h.2) ∙ sym h.3
+finds ks text f h = ap (λ w. token_front ks w text) (one_word_front text (word_front text) h.1 (word_front_so text) h.2) ∙ sym h.3
 
 -- bytes that are malformed stand for nothing, and bytes of a token that stand for nothing are malformed
-malformed_fault : (before k : Kind) (bytes : List ℕ) (from : ℕ) (e : SyntaxError) → IsMalformed before k bytes from e → e ≡ fault_of k from
+malformed_fault : (before k : Kind) (bytes : List ℕ) (from : ℕ) (e : SyntaxError) → IsMalformed before k bytes from e → e ≡ token_fault k from
 malformed_fault before (kind.Mark m) bytes from e h = absurd h
 malformed_fault before kind.Name bytes from e h = h.1
 malformed_fault before kind.Number bytes from e h = h.1
 malformed_fault before kind.Word bytes from e h = h.1
 malformed_fault before kind.End bytes from e h = absurd h
 
-none_malformed : (before k : Kind) (bytes : List ℕ) (from : ℕ) → IsTokenOf k bytes → ((w : What) → Contains before k bytes w → ⊥) → IsMalformed before k bytes from (fault_of k from)
+none_malformed : (before k : Kind) (bytes : List ℕ) (from : ℕ) → IsTokenOf k bytes → ((w : What) → Contains before k bytes w → ⊥) → IsMalformed before k bytes from (token_fault k from)
 none_malformed before (kind.Mark m) bytes from t none = none (what.Mark m) refl
 none_malformed before kind.Name bytes from t none = elim (cases_lt (limit_number limit.Name) (length bytes)) [
   | inl h ↦ (h, refl)

@@ -14,8 +14,8 @@ use Rattle.lucy_token.specs.declared.front.Front.{Front}
 use Rattle.lucy_token.specs.declared.state.Side.{Side}
 use Rattle.lucy_token.specs.declared.state.Side.TheVariants as side
 use Rattle.lucy_token.specs.declared.state.Level.{Level}
-use Rattle.lucy_token.specs.Before.{is_one_of, nearest, wants_word, precedes_operand, definition, is_behind_equals, on_right, depth, inside, wanted, operand_begins, past, limit_at, is_name, is_entry_past}
-use Rattle.lucy_token.specs.Fronts.{begins_gap, gap_of, plain_front, front_of}
+use Rattle.lucy_token.specs.Before.{is_one_of, nearest, wants_word, precedes_operand, definition, is_behind_equals, on_right, depth, inside, operands_wanted, operand_begins, limit_past, limit_at, is_name, is_entry_past}
+use Rattle.lucy_token.specs.Fronts.{begins_gap, gap_of, plain_front, token_front}
 use Rattle.lucy_token.specs.Scans.{word_front, scanned_front}
 use Rattle.lucy_token.specs.Steps.{front_in}
 use Rattle.lucy_token.specs.States.{ScanState, fresh, side_defined, side_after, counted_after, nodes_after, served, merging, level_after, closed, after, is_right, begins_operand, past_tokens, limit_passed, is_comma, begins_entry, is_past_last, state_of}
@@ -91,7 +91,7 @@ abbrev level : ℕ → ℕ → Level
 level commas wants = record { commas = commas; wanted = wants }
 
 abbrev level_of : List Kind → Level
-level_of ks = level (count_by (is_one_of (mark.Comma ∷ [])) ks) (wanted ks)
+level_of ks = level (count_by (is_one_of (mark.Comma ∷ [])) ks) (operands_wanted ks)
 
 abbrev level_get : List Level → ℕ → Level
 level_get [] n = fresh
@@ -102,22 +102,22 @@ word_level : (ks : List Kind) → merging (nearest ks) (level_of (inside zero ks
 word_level [] = refl
 word_level (kind.Mark mark.Merge ∷ ks) = ap (λ n. level n 2) (omega arith)
 word_level (kind.Mark mark.Open ∷ ks) = refl
-word_level (kind.Mark mark.Close ∷ ks) = ap (λ n. level n (wanted (inside 1 ks) - 1)) (omega arith)
-word_level (k ∷ ks) = ap (λ n. level n (wanted (k ∷ inside zero ks))) (sym (count_out (is_one_of (mark.Comma ∷ [])) kind.Word (k ∷ inside zero ks) refl))
+word_level (kind.Mark mark.Close ∷ ks) = ap (λ n. level n (operands_wanted (inside 1 ks) - 1)) (omega arith)
+word_level (k ∷ ks) = ap (λ n. level n (operands_wanted (k ∷ inside zero ks))) (sym (count_out (is_one_of (mark.Comma ∷ [])) kind.Word (k ∷ inside zero ks) refl))
 
 inner_level : (k : Kind) (ks : List Kind) → is_one_of (mark.Close ∷ []) k ≡ false →
     level_after (nearest ks) (level_of (inside zero ks)) k ≡ level_of (k ∷ inside zero ks)
 inner_level kind.Word ks h = word_level ks
-inner_level kind.Name ks h = ap (λ n. level n (wanted (inside zero ks) - 1)) (omega arith)
-inner_level kind.Number ks h = ap (λ n. level n (wanted (inside zero ks) - 1)) (omega arith)
-inner_level (kind.Mark mark.True) ks h = ap (λ n. level n (wanted (inside zero ks) - 1)) (omega arith)
-inner_level (kind.Mark mark.False) ks h = ap (λ n. level n (wanted (inside zero ks) - 1)) (omega arith)
+inner_level kind.Name ks h = ap (λ n. level n (operands_wanted (inside zero ks) - 1)) (omega arith)
+inner_level kind.Number ks h = ap (λ n. level n (operands_wanted (inside zero ks) - 1)) (omega arith)
+inner_level (kind.Mark mark.True) ks h = ap (λ n. level n (operands_wanted (inside zero ks) - 1)) (omega arith)
+inner_level (kind.Mark mark.False) ks h = ap (λ n. level n (operands_wanted (inside zero ks) - 1)) (omega arith)
 inner_level (kind.Mark mark.Close) ks h = absurd cc
-inner_level (kind.Mark mark.Comma) ks h = ap (λ n. level n (wanted (inside zero ks))) (sym (count_in (is_one_of (mark.Comma ∷ [])) (kind.Mark mark.Comma) (inside zero ks) refl))
-inner_level k ks h = ap (λ n. level n (wanted (inside zero ks))) (sym (count_out (is_one_of (mark.Comma ∷ [])) k (inside zero ks) refl))
+inner_level (kind.Mark mark.Comma) ks h = ap (λ n. level n (operands_wanted (inside zero ks))) (sym (count_in (is_one_of (mark.Comma ∷ [])) (kind.Mark mark.Comma) (inside zero ks) refl))
+inner_level k ks h = ap (λ n. level n (operands_wanted (inside zero ks))) (sym (count_out (is_one_of (mark.Comma ∷ [])) k (inside zero ks) refl))
 
 close_level : (ks : List Kind) → served (level_of ks) ≡ level_of (kind.Mark mark.Close ∷ ks)
-close_level ks = ap (λ n. level n (wanted ks - 1)) (omega arith)
+close_level ks = ap (λ n. level n (operands_wanted ks - 1)) (omega arith)
 
 abbrev AreLevels : List Level → List Kind → Type 0
 AreLevels ls ks = (n : ℕ) → level_get ls n ≡ level_of (inside n ks)
@@ -281,19 +281,19 @@ operand_same ks =
     ∙ ap (λ k. on_right ks && (precedes_operand k || nat_le 1 (state_of ks).level.wanted)) (before_is ks)
     ∙ ap (λ (l : Level). on_right ks && (precedes_operand (nearest ks) || nat_le 1 l.wanted)) (levels_are ks zero)
 
-tokens_of : (at : Side) (n : ℕ) (o : Option (List Kind)) → IsPart at n o → past_tokens at n ≡ option_and_then (λ ds. past limit.Tokens (count_by is_own ds)) o
+tokens_of : (at : Side) (n : ℕ) (o : Option (List Kind)) → IsPart at n o → past_tokens at n ≡ option_and_then (λ ds. limit_past limit.Tokens (count_by is_own ds)) o
 tokens_of at n None h = ap (λ a. past_tokens a n) h
 tokens_of side.Head n (Some ds) h = absurd h.0
-tokens_of side.Left n (Some ds) h = ap (past limit.Tokens) h.1
-tokens_of side.Right n (Some ds) h = ap (past limit.Tokens) h.1
-tokens_of side.Called n (Some ds) h = ap (past limit.Tokens) h.1
+tokens_of side.Left n (Some ds) h = ap (limit_past limit.Tokens) h.1
+tokens_of side.Right n (Some ds) h = ap (limit_past limit.Tokens) h.1
+tokens_of side.Called n (Some ds) h = ap (limit_past limit.Tokens) h.1
 
 pub limit_same : (ks : List Kind) (k : Kind) → limit_passed (state_of ks) k ≡ limit_at ks k
 unfolding limit_passed limit_at
-limit_same ks (kind.Mark mark.Open) = ap (past limit.Depth) (depth_is ks)
+limit_same ks (kind.Mark mark.Open) = ap (limit_past limit.Depth) (depth_is ks)
 limit_same ks (kind.Mark mark.Close) = refl
 limit_same ks (kind.Mark mark.And) = refl
-limit_same ks (kind.Mark mark.Let) = ap (past limit.Nodes) (nodes_are ks)
+limit_same ks (kind.Mark mark.Let) = ap (limit_past limit.Nodes) (nodes_are ks)
 limit_same ks k = tokens_of (state_of ks).side (state_of ks).counted (definition ks) (part_is ks)
 
 comma_same : (k : Kind) → is_comma k ≡ is_one_of (mark.Comma ∷ []) k
@@ -320,7 +320,7 @@ entry_past_same ks k =
     (entry_same s.side k ∙ ap (λ b. b || is_name k) (right_is ks))
 
 pub front_same : (ks : List Kind) (text : List ℕ) → front_in (state_of ks) text ≡ scanned_front ks text
-unfolding front_of
+unfolding token_front
 front_same ks text =
     ap (λ k. if begins_gap text then gap_of text else if wants_word k then word_front text else plain_front (begins_operand (state_of ks)) text) (before_is ks)
     ∙ ap (λ b. if begins_gap text then gap_of text else if wants_word (nearest ks) then word_front text else plain_front b text) (operand_same ks)

@@ -19,7 +19,7 @@ use Rattle.lucy_token.specs.declared.stop.Stop.{Stop}
 use Rattle.lucy_token.specs.declared.stop.Stop.TheVariants.{End}
 use Rattle.lucy_token.specs.Marks.{spelling, keywords, signs}
 use Rattle.lucy_token.specs.Before.{nearest, wants_word, operand_begins}
-use Rattle.lucy_token.specs.Fronts.{head, begins_gap, gap_of, close_of, plain_front, front_of, minus_of, is_letter, is_name_byte, sign_in, named_in}
+use Rattle.lucy_token.specs.Fronts.{head, begins_gap, gap_of, close_of, plain_front, token_front, minus_of, is_letter, is_name_byte, sign_in, named_in}
 use Rattle.lucy_token.specs.Scans.{word_front, scanned_front, Scans, ends, gap, bad, passed, past_last, malformed, token}
 use Rattle.lucy_token.specs.Contents.{Contains}
 use Rattle.lucy_token.specs.Written.{IsNameText, IsWritten, AreWritten, InOrder}
@@ -102,7 +102,7 @@ plain_tells before operand text =
     (λ e. cond_both (is_decimal (head (drop (minus_of operand text) text))) (Token kind.Number _) (sign_in signs text) (FrontTells before text) (λ f. tt) (λ f. sign_tells before signs text))
 
 front_tells : (ks : List Kind) (text : List ℕ) → FrontTells (nearest ks) text (scanned_front ks text)
-unfolding front_of
+unfolding token_front
 front_tells ks text =
     cond_both (begins_gap text) (gap_of text) _ (FrontTells (nearest ks) text) (λ e. gap_tells (nearest ks) text)
     (λ e. cond_both (wants_word (nearest ks)) (word_front text) (plain_front (operand_begins ks) text) (FrontTells (nearest ks) text) (λ f. word_front_tells (nearest ks) text f) (λ f. plain_tells (nearest ks) (operand_begins ks) text))

@@ -80,27 +80,27 @@ ends_small kind.Number = true
 ends_small k = is_one_of (mark.True ∷ mark.False ∷ mark.Close ∷ []) k
 
 -- how many of its two operands the last `merge` of these still wants
-abbrev pub wanted : List Kind → ℕ
-wanted [] = 0
-wanted (kind.Word ∷ (kind.Mark mark.Merge ∷ ks)) = 2
-wanted (k ∷ ks) = if ends_small k then wanted ks - 1 else wanted ks
+abbrev pub operands_wanted : List Kind → ℕ
+operands_wanted [] = 0
+operands_wanted (kind.Word ∷ (kind.Mark mark.Merge ∷ ks)) = 2
+operands_wanted (k ∷ ks) = if ends_small k then operands_wanted ks - 1 else operands_wanted ks
 
 -- an operand begins here, if anything may: then a `-` directly before a digit belongs to a number
 unfoldable pub operand_begins : List Kind → Bool
-operand_begins ks = on_right ks && (precedes_operand (nearest ks) || nat_le 1 (wanted (inside 0 ks)))
+operand_begins ks = on_right ks && (precedes_operand (nearest ks) || nat_le 1 (operands_wanted (inside 0 ks)))
 
 -- where so many stand already, one more passes the limit
-abbrev pub past : Limit → ℕ → Option Limit
-past l n = if nat_le (limit_number l) n then Some l else None
+abbrev pub limit_past : Limit → ℕ → Option Limit
+limit_past l n = if nat_le (limit_number l) n then Some l else None
 
 -- the limit that a token of a kind passes here, if one: of open parentheses, of nodes, of a definition's tokens without parentheses; `)` and
 -- `and` pass none
 unfoldable pub limit_at : List Kind → Kind → Option Limit
-limit_at ks (kind.Mark mark.Open) = past limit.Depth (depth ks)
+limit_at ks (kind.Mark mark.Open) = limit_past limit.Depth (depth ks)
 limit_at ks (kind.Mark mark.Close) = None
 limit_at ks (kind.Mark mark.And) = None
-limit_at ks (kind.Mark mark.Let) = past limit.Nodes (count_by (is_one_of (mark.Let ∷ [])) ks)
-limit_at ks k = option_and_then (λ ds. past limit.Tokens (count_by (λ d. not (is_one_of (mark.Open ∷ mark.Close ∷ []) d)) ds)) (definition ks)
+limit_at ks (kind.Mark mark.Let) = limit_past limit.Nodes (count_by (is_one_of (mark.Let ∷ [])) ks)
+limit_at ks k = option_and_then (λ ds. limit_past limit.Tokens (count_by (λ d. not (is_one_of (mark.Open ∷ mark.Close ∷ []) d)) ds)) (definition ks)
 
 -- a name
 abbrev pub is_name : Kind → Bool

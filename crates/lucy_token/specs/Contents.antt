@@ -28,10 +28,10 @@ Contains before kind.Word bytes w = (v : Bits) × IsWordAfter before bytes v × 
 Contains before kind.End bytes w = ⊥
 
 -- the error of bytes that stand for nothing, by the kind of their token, which begins at an offset
-abbrev pub fault_of : Kind → ℕ → SyntaxError
-fault_of kind.Number from = BadNumber from
-fault_of kind.Word from = BadWord from
-fault_of k from = TooLarge limit.Name
+abbrev pub token_fault : Kind → ℕ → SyntaxError
+token_fault kind.Number from = BadNumber from
+token_fault kind.Word from = BadWord from
+token_fault k from = TooLarge limit.Name
 
 -- a token past the last entry of a list: only its kind counts
 abbrev pub unread : Kind → List ℕ → What

@@ -12,7 +12,7 @@ use Rattle.lucy_token.specs.declared.stop.SyntaxError.{SyntaxError}
 use Rattle.lucy_token.specs.declared.stop.SyntaxError.TheVariants.{Unexpected, TooLarge}
 use Rattle.lucy_token.specs.Before.{nearest, limit_at, is_entry_past}
 use Rattle.lucy_token.specs.Fronts.{HasFront}
-use Rattle.lucy_token.specs.Contents.{Contains, fault_of, unread}
+use Rattle.lucy_token.specs.Contents.{Contains, token_fault, unread}
 
 -- a token of so many bytes
 abbrev pub token_at : What → ℕ → ℕ → token_type.Token
@@ -31,7 +31,7 @@ pub data Cuts : ℕ → List Kind → List ℕ → List token_type.Token → Sto
   past_last : {from n : ℕ} {ks : List Kind} {text : List ℕ} {k : Kind} → HasFront ks text (Token k n) →
       limit_at ks k ≡ None → is_entry_past ks k ≡ true → Cuts from ks text (token_at (unread k (take n text)) from n ∷ []) (Fault (TooLarge limit.Names))
   malformed : {from n : ℕ} {ks : List Kind} {text : List ℕ} {k : Kind} → HasFront ks text (Token k n) →
-      limit_at ks k ≡ None → is_entry_past ks k ≡ false → ((w : What) → Contains (nearest ks) k (take n text) w → ⊥) → Cuts from ks text [] (Fault (fault_of k from))
+      limit_at ks k ≡ None → is_entry_past ks k ≡ false → ((w : What) → Contains (nearest ks) k (take n text) w → ⊥) → Cuts from ks text [] (Fault (token_fault k from))
   token : {from n : ℕ} {ks : List Kind} {text : List ℕ} {k : Kind} {w : What} {ts : List token_type.Token} {stop : Stop} → HasFront ks text (Token k n) →
       limit_at ks k ≡ None → is_entry_past ks k ≡ false → Contains (nearest ks) k (take n text) w →
       Cuts (from + n) (k ∷ ks) (drop n text) ts stop → Cuts from ks text (token_at w from n ∷ ts) stop

@@ -70,9 +70,9 @@ plain_front operand text =
     else sign_in signs text
 
 -- what stands at the front of a text, behind tokens of these kinds, where a word's front is this one
-unfoldable pub front_of : List Kind → Front → List ℕ → Front
-front_of ks word text = if begins_gap text then gap_of text else if wants_word (nearest ks) then word else plain_front (operand_begins ks) text
+unfoldable pub token_front : List Kind → Front → List ℕ → Front
+token_front ks word text = if begins_gap text then gap_of text else if wants_word (nearest ks) then word else plain_front (operand_begins ks) text
 
 -- the text has a byte, and this stands at its front
 abbrev pub HasFront : List Kind → List ℕ → Front → Type 0
-HasFront ks text front = (0 < length text) × (word : Front) × IsWordFront text word × (front ≡ front_of ks word text)
+HasFront ks text front = (0 < length text) × (word : Front) × IsWordFront text word × (front ≡ token_front ks word text)

@@ -19,7 +19,7 @@ use Rattle.lucy_token.specs.declared.stop.Stop.TheVariants.{End, Fault}
 use Rattle.lucy_token.specs.declared.stop.SyntaxError.{SyntaxError}
 use Rattle.lucy_token.specs.declared.stop.SyntaxError.TheVariants.{Unexpected, BadNumber, BadWord, TooLarge}
 use Rattle.lucy_token.specs.Before.{nearest, limit_at, is_entry_past}
-use Rattle.lucy_token.specs.Fronts.{front_of}
+use Rattle.lucy_token.specs.Fronts.{token_front}
 use Rattle.lucy_token.specs.Contents.{IsWordAfter, Contains, unread}
 use Rattle.lucy_token.specs.declared.token.Kind.TheVariants as kind
 use Rattle.lucy_token.specs.declared.front.Front.{Front}
@@ -55,7 +55,7 @@ word_front text = word_from 0 begin text
 
 -- what stands at the front of a text
 abbrev pub scanned_front : List Kind → List ℕ → Front
-scanned_front ks text = front_of ks (word_front text) text
+scanned_front ks text = token_front ks (word_front text) text
 
 -- The text, which begins at an offset behind tokens of these kinds, is these tokens up to this stop.
 pub data Scans : ℕ → List Kind → List ℕ → List token_type.Token → Stop → Type 0 where

@@ -9,7 +9,7 @@ use Rattle.lucy_token.specs.declared.token.Kind.TheVariants as kind
 use Rattle.lucy_token.specs.declared.state.Side.{Side}
 use Rattle.lucy_token.specs.declared.state.Side.TheVariants as side
 use Rattle.lucy_token.specs.declared.state.Level.{Level}
-use Rattle.lucy_token.specs.Before.{precedes_operand, past}
+use Rattle.lucy_token.specs.Before.{precedes_operand, limit_past}
 
 -- the state before a token: the kind of the token before it; whether it stands in the head of a node, on the left or the
 -- right of a definition's `=`, or where a call of several results is due; the tokens of the definition so far, without parentheses; the nodes so far; what is
@@ -114,14 +114,14 @@ begins_operand s = is_right s.side && (precedes_operand s.before || nat_le 1 s.l
 -- a definition's token, where so many of its tokens stand before it
 abbrev pub past_tokens : Side → ℕ → Option Limit
 past_tokens side.Head n = None
-past_tokens at n = past limit.Tokens n
+past_tokens at n = limit_past limit.Tokens n
 
 -- the limit that a token of a kind passes, if one: the open parentheses, the tokens of one definition, the nodes
 unfoldable pub limit_passed : ScanState → Kind → Option Limit
-limit_passed s (kind.Mark mark.Open) = past limit.Depth (length s.outer)
+limit_passed s (kind.Mark mark.Open) = limit_past limit.Depth (length s.outer)
 limit_passed s (kind.Mark mark.Close) = None
 limit_passed s (kind.Mark mark.And) = None
-limit_passed s (kind.Mark mark.Let) = past limit.Nodes s.nodes
+limit_passed s (kind.Mark mark.Let) = limit_past limit.Nodes s.nodes
 limit_passed s k = past_tokens s.side s.counted
 
 -- a comma

@@ -200,7 +200,7 @@ fn is_right(side: Side) -> bool
 }
 
 fn past(limit: Limit, n: u64) -> Option<Limit>
-    ensures { result ≡ before.past limit n }
+    ensures { result ≡ before.limit_past limit n }
 {
     if limit.number() <= n {
         Some(limit)
