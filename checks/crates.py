@@ -31,11 +31,11 @@ def folder_of(top, crate):
 
 
 def files_of(top, crate):
-    """The files of a crate below a folder, each with its name as the tool wants it."""
+    """The files of a crate below a folder that the tool takes, each with its name as the tool wants it."""
     here = folder_of(top, crate)
     for at, folders, names in os.walk(here):
         folders[:] = [it for it in folders if it not in LEFT_OUT or at != here]
-        yield from ((MARKED.sub(r"\1", f"{crate}{at[len(here):]}/{it}"), f"{at}/{it}") for it in names)
+        yield from ((MARKED.sub(r"\1", f"{crate}{at[len(here):]}/{it}"), f"{at}/{it}") for it in names if not it.endswith(".md"))
 
 
 def crates_below(tops):
