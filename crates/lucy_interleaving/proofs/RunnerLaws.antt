@@ -112,12 +112,12 @@ if_made proper_of runner safe ops o text a inputs horizon fed made =
 
 -- what `Runner::new` makes of what `Core::new` makes is such a runner
 pub made_anew : (ops : List Operator) (a : Accepted) (inputs : List (List ℤ)) (horizon : ℕ) (schedule : Timetable) (core : Seen) (runner : RunnerView) → params_in (main_of a.placed.nodes) ≡ length inputs →
-    core ≡ first_seen a.net schedule inputs ops horizon → runner ≡ first_runner core → IsMadeFor ops a inputs horizon runner
+    core ≡ first_seen a.net schedule inputs ops horizon → runner ≡ first_runner core runner.crew → IsMadeFor ops a inputs horizon runner
 made_anew ops a inputs horizon schedule core runner params e f = record {
   schedule = schedule;
   params = params;
   rounds = [];
-  moved = ap (λ (v : RunnerView). v.seen) f ∙ ap (λ (s : Seen). (first_runner s).seen) e;
+  moved = ap (λ (v : RunnerView). v.seen) f ∙ ap (λ (s : Seen). (first_runner s runner.crew).seen) e;
 }
 
 after_last : (seen : Seen) (rounds : List (List ℕ)) (picks : List ℕ) → after_rounds seen (rounds ++ picks ∷ []) ≡ after_picks (after_rounds seen rounds) picks
@@ -128,7 +128,7 @@ after_last seen (first ∷ rounds) picks = after_last (after_picks seen first) r
 pub moved_on : (ops : List Operator) (a : Accepted) (inputs : List (List ℤ)) (horizon moves : ℕ) (before after : RunnerView) → IsRoundTo before.seen after.seen moves → IsMadeFor ops a inputs horizon before →
     IsMadeFor ops a inputs horizon after
 moved_on ops a inputs horizon moves before after round made =
-    let first : Seen = (first_runner (first_seen a.net made.schedule inputs ops horizon)).seen in
+    let first : Seen = first_seen a.net made.schedule (inputs_for a.net inputs) ops horizon in
     record {
       schedule = made.schedule;
       params = made.params;

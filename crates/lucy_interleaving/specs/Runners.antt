@@ -5,7 +5,7 @@ use Rattle.lucy_host.specs.Operators.{Operator, kinds_of}
 use Rattle.lucy_net.specs.Schedules.{Timetable}
 use Rattle.lucy_net.specs.Plans.{taker}
 use Rattle.lucy_core.specs.Seen.{Seen, state_of, first_seen, after_picks}
-use Rattle.lucy_runner.specs.Views.{RingView, RunnerView, first_runner}
+use Rattle.lucy_runner.specs.Views.{RingView, RunnerView, inputs_for}
 use Rattle.lucy_kahn.specs.Spots.{Spot, main_of}
 use Rattle.lucy_kahn.specs.Numbers.{number}
 use Rattle.lucy_kahn.specs.Turns.{params_in}
@@ -42,7 +42,7 @@ pub record IsMadeFor (ops : List Operator) (a : Accepted) (inputs : List (List �
   pub schedule : Timetable
   pub params : params_in (main_of a.placed.nodes) ≡ length inputs
   pub rounds : List (List ℕ)
-  pub moved : runner.seen ≡ after_rounds (first_runner (first_seen a.net schedule inputs ops horizon)).seen rounds
+  pub moved : runner.seen ≡ after_rounds (first_seen a.net schedule (inputs_for a.net inputs) ops horizon) rounds
 
 -- the runner is safe where it was made so for a text that is accepted as a program, on inputs that suffice
 abbrev pub IsSafeIfMade : RunnerView → Type 0

@@ -93,7 +93,7 @@ echo_ready w net schedule inputs operators items instants core same list all e =
 first_list : (w : Bits) (net : Net) (inputs : List (List ℤ)) → net ≡ echo w → list_at (inputs_for net inputs) 0 ≡ list_at inputs 0
 first_list w net inputs e = ap (λ n. list_at (inputs_for n inputs) 0) e
 
-pub echo_at : (w : Bits) (operators : List Operator) (items : ℕ) (core : Seen) (view : RunnerView) → IsEchoReady w operators items core → view ≡ first_runner core → IsEcho operators view.seen
+pub echo_at : (w : Bits) (operators : List Operator) (items : ℕ) (core : Seen) (view : RunnerView) → IsEchoReady w operators items core → view ≡ first_runner core view.crew → IsEcho operators view.seen
 echo_at w operators items core view is e =
     let there = is.inputs.all in
     let of = is.instants in
@@ -118,9 +118,9 @@ longer_supplied operators seen added instants is at one =
     let enough = is.items in
     subst (λ (n : Net). IsSupplied (longer_inputs seen.net seen.inputs added) n (instants + 1)) (sym is.net) (supplied is.word (longer_inputs seen.net seen.inputs added) (instants + 1) (omega (arith, more, enough)))
 
-pub longer_echo : (operators : List Operator) (seen : Seen) (added : List (List ℤ)) (view : RunnerView) (instants before : ℕ) (rings : List RingView) → IsEcho operators seen → seen.instants ≡ instants → HasOneList 1 added →
-    view ≡ record { seen = grown_seen seen added (instants + 1); before = before; rings = rings } → IsEcho operators view.seen
-longer_echo operators seen added view instants before rings is at one f =
+pub longer_echo : (operators : List Operator) (seen : Seen) (added : List (List ℤ)) (view : RunnerView) (instants before : ℕ) (rings : List RingView) (crew : List (List ℕ)) → IsEcho operators seen → seen.instants ≡ instants → HasOneList 1 added →
+    view ≡ record { seen = grown_seen seen added (instants + 1); before = before; rings = rings; crew = crew } → IsEcho operators view.seen
+longer_echo operators seen added view instants before rings crew is at one f =
     let more = more_items operators seen added is one in
     let enough = is.items in
     subst (λ (v : RunnerView). IsEcho operators v.seen) (sym f) (record { word = is.word; net = is.net; operators_are = is.operators_are; items = omega (arith, more, enough) })

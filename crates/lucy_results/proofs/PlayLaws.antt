@@ -22,25 +22,25 @@ use Rattle.lucy_results.proofs.NetLaws.{supplied}
 
 module _ (nodes : List PlacedNode) (clocks : List NodeClock) where
   -- a runner of a new core that went to its end
-  pub played_first : (core : Seen) (first last : RunnerView) (picks : List ℕ) → first ≡ first_runner core → last.seen ≡ after_picks first.seen picks → IsOver last.seen → IsFlat nodes clocks core.net →
+  pub played_first : (core : Seen) (first last : RunnerView) (picks : List ℕ) → first ≡ first_runner core first.crew → last.seen ≡ after_picks first.seen picks → IsOver last.seen → IsFlat nodes clocks core.net →
       inputs_for core.net core.inputs ≡ core.inputs → params_in (main_of nodes) ≡ length core.inputs → IsPlayed nodes clocks last
   played_first core first last picks e f over flat inputs params =
-      let all : last.seen ≡ after_picks (first_runner core).seen picks = f ∙ ap (λ (v : RunnerView). after_picks v.seen picks) e in
+      let all : last.seen ≡ after_picks (first_runner core first.crew).seen picks = f ∙ ap (λ (v : RunnerView). after_picks v.seen picks) e in
       record {
         flat = subst (λ (s : Seen). IsFlat nodes clocks s.net) (sym all) flat;
         over = over;
         inputs = params ∙ ap length (sym inputs) ∙ sym (ap (λ (s : Seen). length s.inputs) all);
       }
 
-  pub first_is : (core : Seen) (first last : RunnerView) (picks : List ℕ) → first ≡ first_runner core → last.seen ≡ after_picks first.seen picks → last.before ≡ first.before →
-      inputs_for core.net core.inputs ≡ core.inputs →
-      played nodes clocks last ≡ record { nodes = nodes; clocks = clocks; kinds = kinds_of core.operators; inputs = core.inputs; instants = core.instants; before = 0 }
-  first_is core first last picks e f g inputs =
-      let seen : last.seen ≡ after_picks (first_runner core).seen picks = f ∙ ap (λ (v : RunnerView). after_picks v.seen picks) e in
+  pub first_is : (core : Seen) (first last : RunnerView) (picks : List ℕ) → first ≡ first_runner core first.crew → last.seen ≡ after_picks first.seen picks → last.before ≡ first.before →
+      (crew : List (List ℕ)) → last.crew ≡ first.crew → first.crew ≡ crew → inputs_for core.net core.inputs ≡ core.inputs →
+      played nodes clocks last ≡ record { nodes = nodes; clocks = clocks; kinds = kinds_of core.operators; inputs = core.inputs; instants = core.instants; before = 0; crew = crew }
+  first_is core first last picks e f g crew kept is inputs =
+      let seen : last.seen ≡ after_picks (first_runner core first.crew).seen picks = f ∙ ap (λ (v : RunnerView). after_picks v.seen picks) e in
       let before : last.before ≡ 0 = g ∙ ap (λ (v : RunnerView). v.before) e in
-      let P : Seen → ℕ → PlayerView = λ (s : Seen) n. record { nodes = nodes; clocks = clocks; kinds = kinds_of s.operators; inputs = s.inputs; instants = s.instants; before = n } in
-      ap (λ (s : Seen). P s last.before) seen ∙ ap (P (after_picks (first_runner core).seen picks)) before
-      ∙ ap (λ (xs : List (List ℤ)). P (record core { inputs = xs }) 0) inputs
+      let P : Seen → ℕ → List (List ℕ) → PlayerView = λ (s : Seen) n w. record { nodes = nodes; clocks = clocks; kinds = kinds_of s.operators; inputs = s.inputs; instants = s.instants; before = n; crew = w } in
+      ap (λ (s : Seen). P s last.before last.crew) seen ∙ ap (λ n. P (after_picks (first_runner core first.crew).seen picks) n last.crew) before
+      ∙ ap (λ (xs : List (List ℤ)). P (record core { inputs = xs }) 0 last.crew) inputs ∙ ap (P core 0) (kept ∙ is)
 
   module _ (proper : AreProper nodes) (old grown last : RunnerView) (added : List (List ℤ)) (instants : ℕ) (picks : List ℕ) (is : IsPlayed nodes clocks old) (same : length added ≡ length old.seen.inputs)
       (more : grown ≡ record old { seen = grown_seen old.seen added instants; before = old.seen.instants }) (run : last.seen ≡ after_picks grown.seen picks) where
@@ -58,12 +58,16 @@ module _ (nodes : List PlacedNode) (clocks : List NodeClock) where
       inputs = is.inputs ∙ sym (ap length inputs_on ∙ joined_count old.seen.inputs added);
     }
 
-    pub on_is : last.before ≡ grown.before →
+    pub on_is : last.before ≡ grown.before → last.crew ≡ grown.crew →
         played nodes clocks last ≡ record (played nodes clocks old) { inputs = joined old.seen.inputs added; instants = instants; before = old.seen.instants }
-    on_is e =
+    on_is e kept =
         let before : last.before ≡ old.seen.instants = e ∙ ap (λ (v : RunnerView). v.before) more in
-        let P : Seen → List (List ℤ) → ℕ → PlayerView = λ (s : Seen) xs n. record { nodes = nodes; clocks = clocks; kinds = kinds_of s.operators; inputs = xs; instants = s.instants; before = n } in
-        ap (P last.seen last.seen.inputs) before ∙ ap (λ xs. P last.seen xs old.seen.instants) inputs_on ∙ ap (λ (s : Seen). P s (joined old.seen.inputs added) old.seen.instants) seen_on
+        let crew : last.crew ≡ old.crew = kept ∙ ap (λ (v : RunnerView). v.crew) more in
+        let P : Seen → List (List ℤ) → ℕ → List (List ℕ) → PlayerView = λ (s : Seen) xs n w.
+        record { nodes = nodes; clocks = clocks; kinds = kinds_of s.operators; inputs = xs; instants = s.instants; before = n; crew = w } in
+        ap (λ n. P last.seen last.seen.inputs n last.crew) before ∙ ap (λ xs. P last.seen xs old.seen.instants last.crew) inputs_on
+        ∙ ap (λ (s : Seen). P s (joined old.seen.inputs added) old.seen.instants last.crew) seen_on
+        ∙ ap (P (grown_seen old.seen added instants) (joined old.seen.inputs added) old.seen.instants) crew
 
 -- inputs that go on supply the net
 pub supplied_on : (nodes : List PlacedNode) (clocks : List NodeClock) → AreProper nodes → (net : Net) → IsFlat nodes clocks net → (held added : List (List ℤ)) (t : ℕ) → params_in (main_of nodes) ≡ length held → length held ≡ length added →
@@ -72,9 +76,9 @@ supplied_on nodes clocks proper net flat held added t e f suffice =
     subst (λ xs. IsSupplied xs net t) (sym (longer_same nodes clocks proper net flat held added e f)) (supplied nodes clocks proper net flat (joined held added) t suffice)
 
 -- what is told of a program that was run in one step
-pub told_whole : {E : Type 0} (r : Result (List (List ℤ)) E) (v : PlayerView) (nodes : List PlacedNode) (clocks : List NodeClock) (kinds : List HostKind) (inputs : List (List ℤ)) (instants : ℕ) →
-    v ≡ record { nodes = nodes; clocks = clocks; kinds = kinds; inputs = inputs; instants = instants; before = 0 } →
+pub told_whole : {E : Type 0} (r : Result (List (List ℤ)) E) (v : PlayerView) (nodes : List PlacedNode) (clocks : List NodeClock) (kinds : List HostKind) (inputs : List (List ℤ)) (instants : ℕ) (crew : List (List ℕ)) →
+    v ≡ record { nodes = nodes; clocks = clocks; kinds = kinds; inputs = inputs; instants = instants; before = 0; crew = crew } →
     IfOk r (λ lists. lists ≡ later_streams v.kinds v.inputs v.nodes v.clocks v.before v.instants) → IfOk r (λ lists. lists ≡ main_streams kinds inputs nodes clocks instants)
-told_whole (Ok lists) v nodes clocks kinds inputs instants e f =
+told_whole (Ok lists) v nodes clocks kinds inputs instants crew e f =
     f ∙ ap (λ (u : PlayerView). later_streams u.kinds u.inputs u.nodes u.clocks u.before u.instants) e ∙ later_first kinds inputs nodes clocks instants
-told_whole (Err e) v nodes clocks kinds inputs instants f g = tt
+told_whole (Err e) v nodes clocks kinds inputs instants crew f g = tt

@@ -46,7 +46,7 @@ impl<'a> Player<'a> {
     ghost use Rattle.lucy_flat.specs.Flat.{IsFlat};
     ghost use Rattle.lucy_results.specs.Streams.{param_words, later_streams};
     ghost use Rattle.lucy_runner.specs.Views.{most_workers};
-    ghost use Rattle.lucy_results.specs.Playing.{joined};
+    ghost use Rattle.lucy_results.specs.Playing.{joined, crew_for};
 
     /// Runs a program from the beginning to a horizon of at most 1,048,576 instants, by its flat net, whose actors are moved by 1 to
     /// 64 workers, each on a thread of its own. Actor `a` is in worker `a mod workers`. There is an input for each parameter of
@@ -73,7 +73,7 @@ impl<'a> Player<'a> {
         requires early { instants ≤ limit_number limit.Instants }
         requires workers { (1 ≤ workers) × (workers ≤ most_workers) }
         ensures { IfOk result (λ player. player
-            ≡ record { nodes = placed.now.nodes; clocks = clocks.now; kinds = kinds_of (lent host.now); inputs = inputs; instants = instants; before = 0 }) }
+            ≡ record { nodes = placed.now.nodes; clocks = clocks.now; kinds = kinds_of (lent host.now); inputs = inputs; instants = instants; before = 0; crew = crew_for net workers }) }
     {
         // For the proof: this call tells that the nodes are proper.
         let _ = placed.nodes();

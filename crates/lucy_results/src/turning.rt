@@ -12,11 +12,12 @@ ghost use Rattle.lucy_net.specs.Schedules.{events_at};
 ghost use Rattle.lucy_core.specs.Seen.{IsUnbegun};
 ghost use Rattle.lucy_flat.specs.Flat.{IsFlat};
 ghost use Rattle.lucy_runner.specs.Views.{inputs_for, most_workers};
+ghost use Rattle.lucy_runner.specs.Homes.{crew_by, actors_by};
 ghost use Rattle.lucy_runner.specs.Crews.{crew_of};
 ghost use Rattle.lucy_runner.specs.Turns.{AreServed};
 ghost use Rattle.lucy_runner.specs.Finishing.{HaveFinished};
 ghost use Rattle.lucy_results.specs.Streams.{param_words, main_streams};
-ghost use Rattle.lucy_results.specs.Playing.{played, IsPlayed};
+ghost use Rattle.lucy_results.specs.Playing.{crew_for, played, IsPlayed};
 
 use crate::workers::{homes_of, outputs};
 use lucy_clock::NodeClock;
@@ -45,7 +46,7 @@ fn turn_core<T: FnOnce(&mut [Seat])>(
     requires each { All (λ home. home < workers) homes.now }
     requires inputs { inputs_for core.net core.inputs ≡ core.inputs }
     requires params { params_in (main_of placed.now.nodes) ≡ length core.inputs }
-    requires turns { (seats : _) → AreServed (length core.operators) (crew_of seats.now) → T.pre turns seats
+    requires turns { (seats : _) → AreServed (length core.operators) (crew_of seats.now) → actors_by (crew_of seats.now) ≡ crew_by workers homes.now → T.pre turns seats
         × ((none : _) (after : _) → T.post turns seats none after → HaveFinished (kinds_of core.operators) seats.now after.now) }
     ensures played { IfOk result (λ runner. IsPlayed placed.now.nodes clocks.now runner) }
     ensures is { IfOk result (λ runner. played placed.now.nodes clocks.now runner
@@ -56,6 +57,7 @@ fn turn_core<T: FnOnce(&mut [Seat])>(
           inputs = core.inputs;
           instants = core.instants;
           before = 0;
+          crew = crew_by workers homes.now;
         }) }
 {
     let mut runner = Runner::new(alloc, core, workers, homes)?;
@@ -86,7 +88,7 @@ pub fn run_net_by_turns<T: FnOnce(&mut [Seat])>(
     requires suffice { Suffice (param_words placed.now.nodes clocks.now) inputs instants }
     requires early { instants ≤ limit_number limit.Instants }
     requires workers { (1 ≤ workers) × (workers ≤ most_workers) }
-    requires turns { (seats : _) → AreServed (length ops.now) (crew_of seats.now) → T.pre turns seats
+    requires turns { (seats : _) → AreServed (length ops.now) (crew_of seats.now) → actors_by (crew_of seats.now) ≡ crew_for net workers → T.pre turns seats
         × ((none : _) (after : _) → T.post turns seats none after → HaveFinished (kinds_of ops.now) seats.now after.now) }
     ensures { IfOk result (λ lists. lists ≡ main_streams (kinds_of ops.now) inputs placed.now.nodes clocks.now instants) }
 {

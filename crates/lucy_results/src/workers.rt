@@ -7,8 +7,9 @@ ghost use Rattle.lucy_kahn.specs.Turns.{params_in};
 ghost use Rattle.lucy_core.specs.Seen.{IsUnbegun, IsOver};
 ghost use Rattle.lucy_flat.specs.Flat.{IsFlat};
 ghost use Rattle.lucy_runner.specs.Views.{inputs_for, most_workers};
+ghost use Rattle.lucy_runner.specs.Homes.{crew_by};
 ghost use Rattle.lucy_results.specs.Streams.{later_streams};
-ghost use Rattle.lucy_results.specs.Playing.{played, IsPlayed};
+ghost use Rattle.lucy_results.specs.Playing.{homes_for, played, IsPlayed};
 
 use crate::lists::add;
 use lucy_clock::NodeClock;
@@ -45,7 +46,7 @@ pub(crate) fn outputs(
 pub fn homes_of(alloc: Global, actors: usize, workers: u32) -> Result<Vec<u32>, AllocError>
     requires { 1 ≤ workers }
     ensures count { IfOk result (λ homes. length homes.items ≡ actors) }
-    ensures home { IfOk result (λ homes. (a : ℕ) → a < actors → slice_get homes.items a ≡ Some (a % workers)) }
+    ensures home { IfOk result (λ homes. homes.items ≡ homes_for actors workers) }
     ensures each { IfOk result (λ homes. All (λ home. home < workers) homes.items) }
 {
     let mut homes = Vec::new(alloc);
@@ -78,7 +79,7 @@ pub(crate) fn run_core<R: Threads + Sync, F: Fn(u32, i64, i64) -> i64 + Sync, G:
     requires params { params_in (main_of placed.now.nodes) ≡ length core.inputs }
     ensures played { IfOk result (λ runner. IsPlayed placed.now.nodes clocks.now runner) }
     ensures is { IfOk result (λ runner. played placed.now.nodes clocks.now runner
-        ≡ record { nodes = placed.now.nodes; clocks = clocks.now; kinds = kinds_of core.operators; inputs = core.inputs; instants = core.instants; before = 0 }) }
+        ≡ record { nodes = placed.now.nodes; clocks = clocks.now; kinds = kinds_of core.operators; inputs = core.inputs; instants = core.instants; before = 0; crew = crew_by workers homes.now }) }
 {
     let mut runner = Runner::new(alloc, core, workers, homes)?;
     runner.go(rt, host, gate);

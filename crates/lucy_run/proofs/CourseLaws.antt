@@ -21,10 +21,10 @@ use Rattle.lucy_run.specs.Paces.{IsBlock}
 use Rattle.lucy_run.proofs.ReadLaws.{suffice_longer, values_count, values_front, values_joined, fed_counts, fed_carried, fed_none, met_suffices}
 
 -- a run before its first instant
-pub begin : (p : Program) (c : CourseView) (none : List (List ℤ)) → ((s : SeenSource) → HasRead p.inputs s s c.reader [] []) → c.reader.reader.inputs ≡ p.inputs → AreFresh p.inputs c.reader [] →
-    none ≡ values p [] → c.player ≡ record { nodes = p.nodes; clocks = p.clocks; kinds = p.kinds; inputs = none; instants = 0; before = 0 } → c.words ≡ words_of p → c.outputs ≡ p.outputs → c.target ≡ 0 → c.horizon ≡ 0 →
+pub begin : (p : Program) (c : CourseView) (none : List (List ℤ)) (crew : List (List ℕ)) → ((s : SeenSource) → HasRead p.inputs s s c.reader [] []) → c.reader.reader.inputs ≡ p.inputs → AreFresh p.inputs c.reader [] →
+    none ≡ values p [] → c.player ≡ record { nodes = p.nodes; clocks = p.clocks; kinds = p.kinds; inputs = none; instants = 0; before = 0; crew = crew } → c.words ≡ words_of p → c.outputs ≡ p.outputs → c.target ≡ 0 → c.horizon ≡ 0 →
     most_instants c.given ≤ limit_number limit.Instants → IsBlock c.block → (source : SeenSource) → IsAlong p source [] source c
-begin p c none begun kept fresh empty is words outputs target horizon few block source = record {
+begin p c none crew begun kept fresh empty is words outputs target horizon few block source = record {
   fed = fed_none (words_of p) c.target p.inputs source c.reader begun;
   kept = kept;
   fresh = fresh;

@@ -54,7 +54,7 @@ seen_anew net copy anew inputs lists ops instants e f =
 -- a core and a runner of one net, one horizon and without an event so far stand together
 pub stand_together : (core : Seen) (runner : RunnerView) (net : Net) (schedule anew : Timetable) (inputs : List (List ℤ))
     (ops others : List Operator) (instants : ℕ) →
-    core ≡ first_seen net anew inputs ops instants → runner ≡ first_runner (first_seen net schedule inputs others instants) →
+    core ≡ first_seen net anew inputs ops instants → runner ≡ first_runner (first_seen net schedule inputs others instants) runner.crew →
     AreTogether core runner.seen
 stand_together core runner net schedule anew inputs ops others instants is stands = record {
   net = ap (λ (v : RunnerView). v.seen.net) stands ∙ sym (ap (λ (s : Seen). s.net) is);

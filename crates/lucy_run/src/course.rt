@@ -13,6 +13,7 @@ ghost use Rattle.lucy_flat.specs.Flat.{IsFlat};
 ghost use Rattle.lucy_kahn.specs.Spots.{main_of};
 ghost use Rattle.lucy_kahn.specs.Turns.{params_in};
 ghost use Rattle.lucy_lines.specs.Resuming.{AreMet};
+ghost use Rattle.lucy_results.specs.Playing.{crew_for};
 ghost use Rattle.lucy_run.specs.Paces.{IsPace, IsBlock};
 ghost use Rattle.lucy_run.specs.Owes as owes;
 ghost use Rattle.lucy_run.specs.Courses.{AreSilent, IsUnread, IsNextTarget, IsCourseBegun, IsCourseUnderWay, HasMore, HasStopped, GivesUpBehind, CourseGoesOn, EndsOver};
@@ -112,7 +113,7 @@ fn silent_to(outputs: &[OutputSpec], from: u64, most: u64) -> u64
 const LONG_BLOCK: u64 = 4_096;
 
 impl<'a> Course<'a> {
-    /// A run before its first instant.
+    /// A run before its first instant, by the workers of its pace, each on a thread of its own: actor `a` is in worker `a mod workers`.
     pub fn new<R: Threads + Sync, F: Fn(u32, i64, i64) -> i64 + Sync, G: Gate + Sync>(
         rt: &R,
         alloc: Global,
@@ -135,6 +136,7 @@ impl<'a> Course<'a> {
         requires few { length inputs.items < 2 ^ 32 }
         requires pace { IsPace pace }
         ensures begun { IfOk result (IsCourseBegun (kinds_of (lent host.now)) placed.now.nodes clocks.now inputs.items outputs.now pace) }
+        ensures crew { IfOk result (λ course. course.player.crew ≡ crew_for net pace.workers) }
     {
         let words = param_words(placed, clocks);
         let (reader, none) = unread(alloc, inputs)?;
@@ -250,6 +252,7 @@ impl<'a> Course<'a> {
         requires can { PlayerCanGoOn self.old.player self.old.reader.fresh horizon }
         ensures gone { IfOk result (λ lists. PlayerHasGoneOn self.old.reader self.old.player self.new.reader self.new.player horizon lists) }
         ensures rest { self.new ≡ record self.old { reader = self.new.reader; player = self.new.player } }
+        ensures crew { self.new.player.crew ≡ self.old.player.crew }
     {
         self.player
             .go_on(rt, alloc, host, gate, self.reader.fresh(), horizon)?;
@@ -281,6 +284,7 @@ impl<'a> Course<'a> {
         ensures ahead { OnOk result (self.old.target < self.new.target) }
         ensures given { self.new.given ≡ self.old.given }
         ensures block { self.new.block ≡ self.old.block }
+        ensures crew { self.new.player.crew ≡ self.old.player.crew }
         ensures unread { self.old.words ≡ [] → source.new ≡ source.old }
         ensures count { (I.seen source.old).faults ≤ (I.seen source.new).faults }
     {

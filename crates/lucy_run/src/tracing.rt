@@ -14,6 +14,7 @@ ghost use Rattle.lucy_trace.specs.Together.{AreTogether};
 ghost use Rattle.lucy_flat.specs.Clocked.{AreClocked};
 ghost use Rattle.lucy_flat.specs.Flat.{IsFlat};
 ghost use Rattle.lucy_results.specs.Streams.{param_words};
+ghost use Rattle.lucy_results.specs.Playing.{crew_for};
 ghost use Rattle.lucy_run.specs.Paces.{AreInstants, AreWorkers};
 ghost use Rattle.lucy_run.specs.Owes.{IsHorizonOf, EndsFor};
 ghost use Rattle.lucy_run.specs.Ends.{EndsOwed, EndsTrace};
@@ -73,7 +74,8 @@ fn new_runner(
 ) -> Result<Runner, OutOfMemory>
     requires fixed { CanMakeCore net schedule inputs ops.now instants }
     requires workers { AreWorkers workers }
-    ensures { IfOk result (λ runner. runner ≡ first_runner (first_seen net schedule inputs ops.now instants)) }
+    ensures first { IfOk result (λ runner. runner ≡ first_runner (first_seen net schedule inputs ops.now instants) runner.crew) }
+    ensures crew { IfOk result (λ runner. runner.crew ≡ crew_for net workers) }
 {
     let homes = homes_of(alloc, net.actors.list().len(), workers)?;
     let core = Core::new(alloc, net, schedule, inputs, ops, instants)?;

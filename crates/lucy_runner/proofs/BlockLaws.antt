@@ -66,7 +66,7 @@ ring_more b r ring e =
       };
     }
 
-numbers_grown : (b : Block) → HaveNumbers b.crew b.grown
+pub numbers_grown : (b : Block) → HaveNumbers b.crew b.grown
 numbers_grown b = record {
   seats = b.grows.seats;
   counts = b.grows.counts;

@@ -13,6 +13,7 @@ use Rattle.lucy_worker.specs.Turns.{done_by}
 use Rattle.lucy_worker.specs.Parts as parts
 use Rattle.lucy_runner.specs.declared.place.Place.{Place}
 use Rattle.lucy_runner.specs.Views.{input_count, is_input}
+use Rattle.lucy_runner.specs.Homes.{actors_by}
 use Rattle.lucy_runner.specs.Crews.{part_at, part_of, done_in, done_list, items_among, items_of, inputs_of, number_of, sum_seated, AreShared}
 use Rattle.lucy_runner.specs.Standing.{AreCovered}
 
@@ -85,6 +86,22 @@ still_shared crew next n same shared g =
     sums_same (sum_seated g) (sum_seated g) next crew same.seats (λ s qs ps f e.
     sums_same (number_of g) (number_of g) qs ps (same.counts s ps qs e f) (λ k q p c d. ap g (same.number s k ps qs p q e f d c)))
     ∙ shared g
+
+maps_same : {X Y : Type 0} (f : X → Y) (xs ys : List X) → length xs ≡ length ys → ((k : ℕ) (x y : X) → slice_get xs k ≡ Some x → slice_get ys k ≡ Some y → f x ≡ f y) → map f xs ≡ map f ys
+maps_same f [] [] len h = refl
+maps_same f [] (y ∷ ys) len h = absurd (omega arith)
+maps_same f (x ∷ xs) [] len h = absurd (omega arith)
+maps_same f (x ∷ xs) (y ∷ ys) len h =
+    let first : f x ≡ f y = h 0 x y refl refl in
+    let rest : map f xs ≡ map f ys = maps_same f xs ys (omega arith) (λ k v w e d. h (suc k) v w e d) in
+    cc
+
+-- so each worker keeps its actors
+pub still_held : (crew next : List (List Part)) → HaveNumbers crew next → actors_by next ≡ actors_by crew
+still_held crew next same =
+    let number : Part → ℕ = λ (p : Part). p.number in
+    maps_same (map number) next crew same.seats (λ s qs ps f e.
+    maps_same number qs ps (same.counts s ps qs e f) (λ k q p c d. same.number s k ps qs p q e f d c))
 
 pub still_covered : (crew next : List (List Part)) (places : List Place) → HaveNumbers crew next → AreCovered crew places → AreCovered next places
 still_covered crew next places same covered s k qs q f c =

@@ -15,6 +15,7 @@ use Rattle.lucy_worker.specs.declared.part.Part.{Part}
 use Rattle.lucy_runner.specs.declared.place.Place.{Place}
 use Rattle.lucy_runner.specs.declared.place.Ends.{Ends}
 use Rattle.lucy_runner.specs.Views.{RunnerView, RingView, AreRingsIn, empty_ring, inputs_for}
+use Rattle.lucy_runner.specs.Homes.{actors_by}
 use Rattle.lucy_runner.specs.Crews.{seen_by, IsJoined}
 use Rattle.lucy_runner.specs.Rings.{giver_in, taker_in, ring_between, ring_by, rings_by}
 use Rattle.lucy_runner.specs.Standing.{HasEnds, IsStanding}
@@ -100,21 +101,23 @@ empty_rings seen rings of none =
     ∙ sym (get_or_from_slice_get (map empty_ring specs) r (empty_ring spec) d (slice_get-map empty_ring specs r ∙ ap (option_map empty_ring) spec_is)))
 
 -- what contracts see
-abbrev pub with_rings : Seen → ℕ → List RingView → RunnerView
-with_rings seen before rings = record { seen = seen; before = before; rings = rings }
+abbrev pub view_by : Seen → ℕ → List RingView → List (List ℕ) → RunnerView
+view_by seen before rings crew = record { seen = seen; before = before; rings = rings; crew = crew }
 
 -- a runner without an event
-abbrev pub view_first : Seen → RunnerView
-view_first seen = with_rings seen 0 (map empty_ring seen.net.rings)
+abbrev pub view_first : List (List ℕ) → Seen → RunnerView
+view_first crew seen = view_by seen 0 (map empty_ring seen.net.rings) crew
 
 -- what was made is one
 pub made_first : (net : Net) (schedule : Timetable) (inputs : List (List ℤ)) (operators : List Operator) (instants : ℕ) (crew : List (List Part)) (places : List Place) (ends : List Ends) → CanMakeCore net schedule inputs operators instants →
     AreMade net inputs instants crew places ends →
-    with_rings (seen_by net schedule operators instants crew places) 0 (rings_by crew places net.rings ends) ≡ view_first (first_seen net schedule (inputs_for net inputs) operators instants)
+    view_by (seen_by net schedule operators instants crew places) 0 (rings_by crew places net.rings ends) (actors_by crew)
+    ≡ view_first (actors_by crew) (first_seen net schedule (inputs_for net inputs) operators instants)
 made_first net schedule inputs operators instants crew places ends fixed made =
     let first : Seen = first_seen net schedule (inputs_for net inputs) operators instants in
     let rings : List RingView = rings_by crew places net.rings ends in
     let kept : CanMakeCore net schedule (inputs_for net inputs) operators instants = fixed_seen net schedule inputs operators instants fixed in
     let empty : rings ≡ map empty_ring net.rings = empty_rings first rings (rings_stand first 0 crew places ends (stands_seen net schedule inputs operators instants crew places ends fixed made))
     (first_held net schedule (inputs_for net inputs) operators instants kept) in
-    ap (λ (s : Seen). with_rings s 0 rings) (first_is net schedule inputs operators instants crew places ends made fixed.proper) ∙ ap (with_rings first 0) empty
+    ap (λ (s : Seen). view_by s 0 rings (actors_by crew)) (first_is net schedule inputs operators instants crew places ends made fixed.proper)
+    ∙ ap (λ (rs : List RingView). view_by first 0 rs (actors_by crew)) empty

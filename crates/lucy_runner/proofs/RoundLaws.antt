@@ -11,15 +11,16 @@ use Rattle.lucy_core.specs.Seen.{Seen, done_of}
 use Rattle.lucy_worker.specs.declared.part.Part.{Part}
 use Rattle.lucy_runner.specs.declared.place.Place.{Place}
 use Rattle.lucy_runner.specs.declared.place.Ends.{Ends}
+use Rattle.lucy_runner.specs.Homes.{actors_by}
 use Rattle.lucy_runner.specs.Crews.{part_of, done_at_place, done_list, seen_by, AreJoined}
 use Rattle.lucy_runner.specs.Standing.{IsStanding}
 use Rattle.lucy_runner.specs.Turns.{HaveTurned, HaveAllMet}
 use Rattle.lucy_runner.specs.Rounds.{IsRoundTo}
 use Rattle.lucy_runner.proofs.PlaceLaws.{no_part}
-use Rattle.lucy_runner.proofs.CrewLaws.{IsSameInput, done_is, inputs_same}
+use Rattle.lucy_runner.proofs.CrewLaws.{IsSameInput, done_is, inputs_same, still_held}
 use Rattle.lucy_runner.proofs.JoinLaws.{still_joined}
 use Rattle.lucy_runner.proofs.Rounds.{Round, Goes, goes}
-use Rattle.lucy_runner.proofs.ReachLaws.{picks_of, can_run, met_done, picks_counted}
+use Rattle.lucy_runner.proofs.ReachLaws.{picks_of, can_run, met_done, numbers_turned, numbers_met, picks_counted}
 use Rattle.lucy_runner.proofs.MoveLaws.{all_moved, moves_none}
 use Rattle.lucy_runner.proofs.StandLaws.{next, next_is}
 use Rattle.lucy_runner.proofs.AgainLaws.{stands_again}
@@ -56,11 +57,12 @@ same_input x a = elim (cases_lt a (length x.seen.net.actors)) [
       subst (λ o. IsSameInput o (part_of x.met x.places a)) (sym (no_part x.crew x.places a l)) (subst (λ o. IsSameInput None o) (sym (no_part x.met x.places a l)) tt)
 ]
 
--- after a turn and the meetings all stands again
+-- after a turn and the meetings all stands again, and each worker has the actors that it had
 pub round_stands : (net : Net) (schedule : Timetable) (ops : List Operator) (instants before moves : ℕ) (crew turned met : List (List Part)) (places : List Place) (ends : List Ends) →
     IsStanding (seen_by net schedule ops instants crew places) before crew places ends → HaveTurned (kinds_of ops) crew turned moves → HaveAllMet turned met places ends net.rings →
     IsStanding (seen_by net schedule ops instants met places) before met places ends
     × IsRoundTo (seen_by net schedule ops instants crew places) (seen_by net schedule ops instants met places) moves
+    × (actors_by met ≡ actors_by crew)
 round_stands net schedule ops instants before moves crew turned met places ends standing turns meets =
     let x : Round = record {
       seen = seen_by net schedule ops instants crew places;
@@ -78,4 +80,5 @@ round_stands net schedule ops instants before moves crew turned met places ends 
       meets = meets;
     } in
     let same : next x ≡ seen_by net schedule ops instants met places = ap (λ (lists : List (List ℤ)). record x.seen { inputs = lists; done = done_list met places }) (inputs_same net crew met places (same_input x)) in
-    (subst (λ (s : Seen). IsStanding s before met places ends) same (stands_again x), subst (λ (s : Seen). IsRoundTo x.seen s moves) same (round_to x))
+    let kept : actors_by met ≡ actors_by crew = still_held turned met (numbers_met x) ∙ still_held crew turned (numbers_turned x) in
+    (subst (λ (s : Seen). IsStanding s before met places ends) same (stands_again x), subst (λ (s : Seen). IsRoundTo x.seen s moves) same (round_to x), kept)

@@ -28,7 +28,7 @@ part_spared crew spared s k ps qs p q h e f c d =
     let one : HasSpared (get_or ps k p) (get_or qs k p) = (h.each s ps qs e f).each k p (slice_get_within ps k p c) in
     subst (λ (x : Part). HasSpared x q) (get_or_from_slice_get ps k p p c) (subst (λ (y : Part). HasSpared (get_or ps k p) y) (get_or_from_slice_get qs k q p d) one)
 
-spared_numbers : (crew spared : List (List Part)) → HaveSpared crew spared → HaveNumbers crew spared
+pub spared_numbers : (crew spared : List (List Part)) → HaveSpared crew spared → HaveNumbers crew spared
 spared_numbers crew spared h = record {
   seats = h.seats;
   counts = λ s ps qs e f. (h.each s ps qs e f).as_many;

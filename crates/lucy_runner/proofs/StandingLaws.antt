@@ -17,6 +17,7 @@ use Rattle.lucy_worker.specs.declared.part.Part.{Part}
 use Rattle.lucy_runner.specs.declared.place.Place.{Place}
 use Rattle.lucy_runner.specs.declared.place.Ends.{Ends}
 use Rattle.lucy_runner.specs.declared.seat.Seat.{Seat}
+use Rattle.lucy_runner.specs.Homes.{actors_by}
 use Rattle.lucy_runner.specs.Crews.{seated, crew_of, part_in, placed_in, part_of, seen_by, AreJoined}
 use Rattle.lucy_runner.specs.Standing.{IsPartOf, IsStanding, AreOutputs}
 use Rattle.lucy_runner.specs.Turns.{AreServed, HaveTurned, HaveAllMet}
@@ -55,6 +56,10 @@ served_in net schedule ops operators instants before seats entry places ends sta
     (served (seen_by net schedule ops instants (crew_of seats) places) before (length operators) (crew_of seats) places ends standing
     (as_many_kinds ops operators same))
 
+-- the actors of a runner's workers are those of its seats
+pub held_in : (seats entry : List Seat) (crew : List (List ℕ)) → actors_by (crew_of seats) ≡ crew → entry ≡ seats → actors_by (crew_of entry) ≡ crew
+held_in seats entry crew same entry_is = ap (λ (xs : List Seat). actors_by (crew_of xs)) entry_is ∙ same
+
 -- what a list of so many holds after a slice of it was written back
 abbrev pub back_in : ℕ → List Seat → List Seat → List Seat
 back_in n xs ys = take n (xs ++ drop (length xs) ys)
@@ -66,6 +71,7 @@ written_back n xs ys e = take-append-le n xs (drop (length xs) ys) (omega arith)
 pub record IsRoundOver (net : Net) (schedule : Timetable) (ops : List Operator) (instants before moves : ℕ) (seats met : List Seat) (places : List Place) (ends : List Ends) : Type 0 where
   pub stands : IsStanding (seen_by net schedule ops instants (crew_of met) places) before (crew_of met) places ends
   pub leads : IsRoundTo (seen_by net schedule ops instants (crew_of seats) places) (seen_by net schedule ops instants (crew_of met) places) moves
+  pub kept : actors_by (crew_of met) ≡ actors_by (crew_of seats)
 
 -- the steps of a round over a slice that is written back
 module _ (net : Net) (schedule : Timetable) (ops : List Operator) (instants before moves n : ℕ) (kinds : List HostKind)
@@ -93,10 +99,11 @@ module _ (net : Net) (schedule : Timetable) (ops : List Operator) (instants befo
       subst (λ (rs : List RingSpec). HaveAllMet (crew_of turned) (crew_of met) places ends rs) rings_are
       (subst (λ (es : List Ends). HaveAllMet (crew_of turned) (crew_of met) places es rings) others_are
       (subst (λ (ps : List Place). HaveAllMet (crew_of turned) (crew_of met) ps others rings) list_is meets)) in
-      let over : IsStanding (seen_by net schedule ops instants (crew_of met) places) before (crew_of met) places ends × IsRoundTo (seen_by net schedule ops instants (crew_of seats) places) (seen_by net schedule ops instants (crew_of met) places) moves =
+      let over : IsStanding (seen_by net schedule ops instants (crew_of met) places) before (crew_of met) places ends × IsRoundTo (seen_by net schedule ops instants (crew_of seats) places) (seen_by net schedule ops instants (crew_of met) places) moves
+      × (actors_by (crew_of met) ≡ actors_by (crew_of seats)) =
       round_stands net schedule ops instants before moves (crew_of seats) (crew_of turned) (crew_of met) places ends standing here all in
       subst (λ (xs : List Seat). IsRoundOver net schedule ops instants before moves seats xs places ends)
-      (sym (written_back n met seats met_len)) (record { stands = over.0; leads = over.1 })
+      (sym (written_back n met seats met_len)) (record { stands = over.0; leads = over.1; kept = over.2 })
 
 -- what is read where an output is: its part
 pub record IsReadAs (seats : List Seat) (places : List Place) (a : ℕ) (w : Place) (parts : List Part) : Type 0 where

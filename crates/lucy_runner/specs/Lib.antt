@@ -1,6 +1,7 @@
--- What callers believe: a runner as contracts see it, and its rings by their two ends; what a round and a block make of it; and, for turns
--- that a caller makes, what they leave of the workers.
+-- What callers believe: a runner as contracts see it, which worker has which actors, and its rings by their two ends; what a round and a
+-- block make of it; and, for turns that a caller makes, what they leave of the workers.
 pub mod Views
+pub mod Homes
 pub mod Rings
 pub mod Rounds
 pub mod Blocks

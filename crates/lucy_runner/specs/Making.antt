@@ -1,5 +1,5 @@
 -- How a runner is made: the parts of all actors, then the ends of all rings, then the seats.
-use Rattle.std.specs.Prelude.{ℕ, ◌+◌, ◌<◌, ◌≤◌, ◌≡◌, Bool, true, List, [], ◌∷◌, ◌++◌, ℤ, All, length, map, nat_eq, replicate, slice_get, slice_index, slice_index_or, vec_capacity, if◌then◌else◌, Some}
+use Rattle.std.specs.Prelude.{ℕ, ◌+◌, ◌<◌, ◌≤◌, ◌≡◌, Bool, true, false, List, [], ◌∷◌, ◌++◌, ℤ, All, length, map, nat_eq, replicate, slice_get, slice_index, slice_index_or, vec_capacity, if◌then◌else◌, Some}
 use Rattle.lucy_word.specs.Bits.{ones_to}
 use Rattle.lucy_word.specs.Limits.{limit_number}
 use Rattle.lucy_word.specs.declared.limit.Limit.TheVariants as limit
@@ -110,6 +110,14 @@ HasFewEnds p = (length p.givers.items ≤ limit_number limit.Rings) × (length p
 abbrev pub benched : Bench → List Part
 benched bench = bench.parts.items
 
+-- the homes of benches
+abbrev pub homes_in : List Bench → List ℕ
+homes_in benches = map (λ (bench : Bench). bench.home) benches
+
+-- the home is used
+abbrev pub is_used : List Bool → ℕ → Bool
+is_used used home = slice_index_or used home false
+
 -- the first parts, so many of them, are at their places, each once, and no others are
 pub record ArePlaced (parts : List Part) (n : ℕ) (crew : List (List Part)) (places : List Place) : Type 0 where
   pub placed : length places ≡ n
@@ -122,6 +130,8 @@ pub record HaveSeats (used : List Bool) (hall : Hall) : Type 0 where
   pub count : length hall.numbers.items ≡ length used
   pub few_benches : length hall.benches.items ≤ length used
   pub seats : (home : ℕ) → slice_get used home ≡ Some true → slice_index hall.numbers.items home < length hall.benches.items
+  pub homes : homes_in hall.benches.items ≡ numbers_where (is_used used) (length used)
+  pub places : (home : ℕ) → home < length used → slice_index hall.numbers.items home ≡ length (numbers_where (is_used used) home)
   pub none : All (λ bench. benched bench ≡ []) hall.benches.items
 
 -- the parts are in the order of their numbers

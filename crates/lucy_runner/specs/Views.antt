@@ -16,11 +16,13 @@ pub record RingView : Type 0 where
   pub slots : ℕ
 
 -- a runner: its net with schedule, inputs, operators and horizon, and how many operations each actor has done, which decide its
--- state as they decide that of a core; the horizon up to which its outputs were carried away; and its rings, as their ends hold them
+-- state as they decide that of a core; the horizon up to which its outputs were carried away; its rings, as their ends hold them; and
+-- for each worker that has actors, in order of the workers, those that it has
 pub record RunnerView : Type 0 where
   pub seen : Seen
   pub before : ℕ
   pub rings : List RingView
+  pub crew : List (List ℕ)
 
 -- the rings are those of the state that the counts decide: each holds what was given to it and not taken, and has its size and one
 -- slot more
@@ -65,10 +67,11 @@ inputs_for net inputs = map (input_for net.actors inputs) (range_with_len 0 (inp
 abbrev pub empty_ring : RingSpec → RingView
 empty_ring spec = record { items = []; slots = spec.size + 1 }
 
--- a runner in the state of a core without an event
-abbrev pub first_runner : Seen → RunnerView
-first_runner core = record {
+-- a runner in the state of a core without an event, with such a crew
+abbrev pub first_runner : (core : Seen) → (crew : List (List ℕ)) → RunnerView
+first_runner core crew = record {
   seen = first_seen core.net core.schedule (inputs_for core.net core.inputs) core.operators core.instants;
   before = 0;
   rings = map empty_ring core.net.rings;
+  crew = crew;
 }

@@ -4,6 +4,7 @@ ghost use Rattle.lucy_word.specs.Limits.{limit_number};
 ghost use Rattle.lucy_word.specs.declared.limit.Limit.TheVariants as limit;
 ghost use Rattle.lucy_net.specs.Proper.{IsProper, IsSupplied};
 ghost use Rattle.lucy_runner.specs.Views.{most_workers};
+ghost use Rattle.lucy_runner.specs.Homes.{crew_by, actors_by};
 ghost use Rattle.lucy_runner.specs.Crews.{crew_of};
 ghost use Rattle.lucy_runner.specs.Making.{AreMade};
 ghost use Rattle.lucy_runner.specs.Standing.{AreOutputs};
@@ -44,6 +45,7 @@ pub(crate) fn seat_all(
     requires homes { length homes.now ≡ length core.now.net.actors }
     requires each { All (λ home. home < workers) homes.now }
     ensures made { IfOk result (λ crew. AreMade core.now.net core.now.inputs core.now.instants (crew_of crew.seats.items) crew.places.items crew.ends.items) }
+    ensures homed { IfOk result (λ crew. actors_by (crew_of crew.seats.items) ≡ crew_by workers homes.now) }
     ensures outputs { IfOk result (λ crew. AreOutputs core.now.net.actors crew.outputs.items) }
 {
     let mut parts = first_parts(alloc, core.net.actors.list(), &core.inputs, core.instants)?;

@@ -40,6 +40,7 @@ pub struct Runner {
 
 impl Model for Runner {
     ghost use Rattle.lucy_runner.specs.Views.{RunnerView};
+    ghost use Rattle.lucy_runner.specs.Homes.{actors_by};
     ghost use Rattle.lucy_runner.specs.Crews.{crew_of, seen_by};
     ghost use Rattle.lucy_runner.specs.Rings.{rings_by};
     ghost use Rattle.lucy_runner.specs.Standing.{IsStanding, AreOutputs};
@@ -50,6 +51,7 @@ impl Model for Runner {
       seen = seen_by r.net r.schedule r.ops r.instants (crew_of r.seats.items) r.places.items;
       before = r.before;
       rings = rings_by (crew_of r.seats.items) r.places.items r.net.rings r.ends.items;
+      crew = actors_by (crew_of r.seats.items);
     } };
 
     ghost invariant = { λ r. IsStanding (seen_by r.net r.schedule r.ops r.instants (crew_of r.seats.items) r.places.items) r.before (crew_of r.seats.items) r.places.items r.ends.items
@@ -74,6 +76,7 @@ impl Runner {
     ghost use Rattle.lucy_net.specs.Proper.{IsSupplied};
     ghost use Rattle.lucy_core.specs.Seen.{plan_of, machine_of, order_of, state_of, done_of, after_picks, CanStep, CanRun, IsOver, IsUnbegun, IsOutputOf, first_ring, stream_of};
     ghost use Rattle.lucy_runner.specs.Views.{AreRingsIn, first_runner, most_workers};
+    ghost use Rattle.lucy_runner.specs.Homes.{crew_by, actors_by};
     ghost use Rattle.lucy_runner.specs.Blocks.{longer_inputs, grown_seen};
     ghost use Rattle.lucy_runner.specs.Rounds.{IsRoundTo};
     ghost use Rattle.lucy_runner.specs.Crews.{crew_of};
@@ -92,7 +95,8 @@ impl Runner {
         requires workers { (1 ≤ workers) × (workers ≤ most_workers) }
         requires homes { length homes.now ≡ length core.net.actors }
         requires each { All (λ home. home < workers) homes.now }
-        ensures { IfOk result (λ runner. runner ≡ first_runner core) }
+        ensures first { IfOk result (λ runner. runner ≡ first_runner core runner.crew) }
+        ensures crew { IfOk result (λ runner. runner.crew ≡ crew_by workers homes.now) }
     {
         let parts = core.into_parts();
         let crew = seat_all(alloc, &parts, workers, homes)?;
@@ -124,6 +128,7 @@ impl Runner {
         requires kinds { kinds_of (lent host.now) ≡ kinds_of self.old.seen.operators }
         ensures round { IsRoundTo self.old.seen self.new.seen result }
         ensures before { self.new.before ≡ self.old.before }
+        ensures crew { self.new.crew ≡ self.old.crew }
     {
         let seats = self.seats.as_mut_slice();
         let turned = turn_apart(rt, seats, host, gate);
@@ -148,6 +153,7 @@ impl Runner {
         requires kinds { kinds_of (lent host.now) ≡ kinds_of self.old.seen.operators }
         ensures round { IsRoundTo self.old.seen self.new.seen result }
         ensures before { self.new.before ≡ self.old.before }
+        ensures crew { self.new.crew ≡ self.old.crew }
     {
         let seats = self.seats.as_mut_slice();
         let turned = pass_in_place(seats, host);
@@ -157,14 +163,15 @@ impl Runner {
         moves
     }
 
-    /// A round whose turns a closure makes, which lasts until every actor has done its list, and then a meeting of the two ends of every
-    /// ring. It takes no memory, and returns if the closure does.
+    /// A round whose turns a closure makes, which gets the seats of all workers that have actors and lasts until every actor has done its
+    /// list, and then a meeting of the two ends of every ring. It takes no memory, and returns if the closure does.
     pub fn round_by_turns<T: FnOnce(&mut [Seat])>(&mut self, turns: T)
-        requires { (seats : _) → AreServed (length self.old.seen.operators) (crew_of seats.now) → T.pre turns seats
+        requires { (seats : _) → AreServed (length self.old.seen.operators) (crew_of seats.now) → actors_by (crew_of seats.now) ≡ self.old.crew → T.pre turns seats
             × ((none : _) (after : _) → T.post turns seats none after →
             HaveFinished (kinds_of self.old.seen.operators) seats.now after.now) }
         ensures round { (moves : ℕ) × IsRoundTo self.old.seen self.new.seen moves }
         ensures before { self.new.before ≡ self.old.before }
+        ensures crew { self.new.crew ≡ self.old.crew }
         ensures finished { IsOver self.new.seen }
     {
         let seats = self.seats.as_mut_slice();
@@ -186,6 +193,7 @@ impl Runner {
         requires kinds { kinds_of (lent host.now) ≡ kinds_of self.old.seen.operators }
         ensures run { (picks : List ℕ) × CanRun self.old.seen picks × (self.new.seen ≡ after_picks self.old.seen picks) }
         ensures before { self.new.before ≡ self.old.before }
+        ensures crew { self.new.crew ≡ self.old.crew }
         ensures finished { IsOver self.new.seen }
     {
         let seats = self.seats.as_slice();

@@ -4,8 +4,9 @@ ghost use Rattle.lucy_word.specs.Limits.{limit_number};
 ghost use Rattle.lucy_word.specs.declared.limit.Limit.TheVariants as limit;
 ghost use Rattle.lucy_worker.specs.News.{IsNew, ends_by};
 ghost use Rattle.lucy_runner.specs.Views.{most_workers};
+ghost use Rattle.lucy_runner.specs.Homes.{is_home, at_home, crew_by, actors_by};
 ghost use Rattle.lucy_runner.specs.Crews.{crew_of};
-ghost use Rattle.lucy_runner.specs.Making.{benched, ArePlaced, AreNumbered, CanWork, HaveSeats};
+ghost use Rattle.lucy_runner.specs.Making.{benched, homes_in, ArePlaced, AreNumbered, CanWork, HaveSeats};
 
 use crate::lists::push;
 use crate::place::Place;
@@ -33,6 +34,7 @@ fn used_homes(alloc: Global, workers: u32, homes: &[u32]) -> Result<Vec<bool>, O
     requires { All (λ home. home < workers) homes.now }
     ensures count { IfOk result (λ used. length used.items ≡ workers) }
     ensures used { IfOk result (λ used. All (λ home. slice_get used.items home ≡ Some true) homes.now) }
+    ensures only { IfOk result (λ used. (home : ℕ) → slice_get used.items home ≡ Some true → is_home homes.now home ≡ true) }
 {
     let mut used = vec![in alloc; false; workers as usize]?;
     for home in homes {
@@ -66,6 +68,7 @@ fn sit_down(bench: &mut Bench, seat: u32, part: Part) -> Result<Place, OutOfMemo
     requires { length (benched bench.old) < 2 ^ 32 }
     ensures at { IfOk result (λ place. place ≡ record { seat = seat; part = length (benched bench.old) }) }
     ensures more { IfOk result (λ _. benched bench.new ≡ benched bench.old ++ part ∷ []) }
+    ensures home { IfOk result (λ _. bench.new.home ≡ bench.old.home) }
 {
     let place = Place {
         seat,
@@ -87,8 +90,11 @@ fn place_all(
     requires few { length parts.items ≤ limit_number limit.Actors }
     requires homes { length homes.now ≡ length parts.items }
     requires seats { All (λ home. (home < length numbers.now) × (slice_index numbers.now home < length benches.old)) homes.now }
+    requires own { All (λ home. slice_get (homes_in benches.old) (slice_index numbers.now home) ≡ Some home) homes.now }
+    requires known { (k home : ℕ) → slice_get (homes_in benches.old) k ≡ Some home → slice_index numbers.now home ≡ k }
     requires empty { All (λ bench. benched bench ≡ []) benches.old }
-    ensures { IfOk result (λ places. ArePlaced parts.items (length parts.items) (map benched benches.new) places.items) }
+    ensures placed { IfOk result (λ places. ArePlaced parts.items (length parts.items) (map benched benches.new) places.items) }
+    ensures homed { IfOk result (λ _. actors_by (map benched benches.new) ≡ map (at_home homes.now) (homes_in benches.old)) }
 {
     let mut places = Vec::new(alloc);
     for part in parts {
@@ -130,6 +136,7 @@ pub(crate) fn seat_parts(
     requires each { All (λ home. home < workers) homes.now }
     ensures placed { IfOk result (λ r. ArePlaced parts.items (length parts.items) (crew_of r.0.items) r.1.items) }
     ensures few { IfOk result (λ r. length (crew_of r.0.items) ≤ most_workers) }
+    ensures homed { IfOk result (λ r. actors_by (crew_of r.0.items) ≡ crew_by workers homes.now) }
 {
     let used = used_homes(alloc, workers, homes)?;
     let Hall {

@@ -36,6 +36,7 @@ fn trace_round<F: Fn(u32, i64, i64) -> i64 + Sync, K: Sink>(
     ensures less { OnOk result (events_left core.new < events_left core.old) }
     ensures together { OnOk result (AreTogether core.new runner.new.seen) }
     ensures operators { runner.new.seen.operators ≡ runner.old.seen.operators }
+    ensures crew { runner.new.crew ≡ runner.old.crew }
     ensures failed { result ≡ Err OutputError.Failed → (text : List ℕ) × IsRest core.old text × Fails (K.seen out.old) (K.seen out.new) text }
     ensures out_of_memory { result ≡ Err OutputError.OutOfMemory → out.new ≡ out.old }
     ensures faults { (K.seen out.old).faults ≤ (K.seen out.new).faults }
@@ -60,6 +61,7 @@ fn trace_on<F: Fn(u32, i64, i64) -> i64 + Sync, K: Sink>(
     requires runner_kinds { kinds_of (lent host.now) ≡ kinds_of runner.old.seen.operators }
     requires together { AreTogether core.old runner.old.seen }
     requires count { length counts.old ≡ length core.old.net.actors }
+    ensures crew { runner.new.crew ≡ runner.old.crew }
     ensures ok { OnOk result ((text : List ℕ) × IsRest core.old text × Writes (K.seen out.old) (K.seen out.new) text) }
     ensures failed { result ≡ Err OutputError.Failed → (text : List ℕ) × IsRest core.old text × Fails (K.seen out.old) (K.seen out.new) text }
     ensures out_of_memory { result ≡ Err OutputError.OutOfMemory →
@@ -80,7 +82,7 @@ fn trace_on<F: Fn(u32, i64, i64) -> i64 + Sync, K: Sink>(
 
 /// Runs a runner without an event so far to the end, round by round, and writes the line of each round behind it: events that lead
 /// from where the runner stood before the round to where it stands after it. The core, of the same net and horizon, is led behind it.
-/// All lines are a trace. Of the run only the round at hand is kept.
+/// All lines are a trace. Of the run only the round at hand is kept. Each worker keeps its actors.
 ///
 /// After a failed write nothing more is written. Where a write fails or memory runs out, a front of a trace was written.
 pub fn trace<F: Fn(u32, i64, i64) -> i64 + Sync, K: Sink>(
@@ -95,6 +97,7 @@ pub fn trace<F: Fn(u32, i64, i64) -> i64 + Sync, K: Sink>(
     requires runner_kinds { kinds_of (lent host.now) ≡ kinds_of runner.old.seen.operators }
     requires unbegun { IsUnbegun core.old }
     requires together { AreTogether core.old runner.old.seen }
+    ensures crew { runner.new.crew ≡ runner.old.crew }
     ensures ok { OnOk result ((text : List ℕ) × IsTraceText core.old.net core.old.instants text × Writes (K.seen out.old) (K.seen out.new) text) }
     ensures failed { result ≡ Err OutputError.Failed → (text : List ℕ) × IsTraceText core.old.net core.old.instants text × Fails (K.seen out.old) (K.seen out.new) text }
     ensures out_of_memory { result ≡ Err OutputError.OutOfMemory →

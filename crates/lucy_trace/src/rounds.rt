@@ -48,6 +48,7 @@ pub(crate) fn round<F: Fn(u32, i64, i64) -> i64 + Sync>(
     ensures run { IfOk result (λ picks. CanRun core.old picks.items × (core.new ≡ after_picks core.old picks.items)) }
     ensures together { OnOk result (AreTogether core.new runner.new.seen) }
     ensures operators { runner.new.seen.operators ≡ runner.old.seen.operators }
+    ensures crew { runner.new.crew ≡ runner.old.crew }
     ensures refused { OnErr result (core.new ≡ core.old) }
 {
     events_go_by_the_net();

@@ -1,26 +1,23 @@
-use Rattle.std.proofs.Common.{ℕ, suc, zero, ◌≡◌, ◌<◌, ◌%◌, ◌+◌, All, List, [], ◌∷◌, ◌++◌, Some, length, ap, sym, refl, ◌∙◌, subst, rules, inl, inr, arith}
-use Rattle.std.specs.Prelude.{slice_get}
-use Rattle.std.proofs.lemmas.Bool.{cases_lt}
-use Rattle.std.proofs.lemmas.List.{length-append}
+use Rattle.std.proofs.Common.{ℕ, suc, zero, ◌≡◌, ◌<◌, ◌%◌, ◌+◌, All, List, [], ◌∷◌, ◌++◌, map, length, ap, sym, refl, ◌∙◌, subst, rules, arith}
+use Rattle.std.specs.List.{range_with_len}
+use Rattle.std.proofs.lemmas.List.{map-append, length-map}
+use Rattle.std.proofs.lemmas.List.FromFn.{length-range_with_len}
+use Rattle.lucy_results.specs.Playing.{homes_for}
 use Rattle.lucy_results.proofs.workers.homes_of.Goals as goal
 
--- an item of a list with one more at its end
-early : (xs : List ℕ) (x i : ℕ) → i < length xs → slice_get (xs ++ x ∷ []) i ≡ slice_get xs i
-early [] x i l = absurd (omega arith)
-early (y ∷ xs) x zero l = refl
-early (y ∷ xs) x (suc i) l = early xs x i (omega arith)
-
-last : (xs : List ℕ) (x i : ℕ) → i ≡ length xs → slice_get (xs ++ x ∷ []) i ≡ Some x
-last [] x i e = ap (slice_get (x ∷ [])) e
-last (y ∷ xs) x zero e = absurd (omega arith)
-last (y ∷ xs) x (suc i) e = last xs x i (omega arith)
+-- one number more
+range_more : (from n : ℕ) → range_with_len from (n + 1) ≡ range_with_len from n ++ (from + n) ∷ []
+range_more from zero = ap (λ k. k ∷ []) (let same : from ≡ from + 0 = omega arith in same)
+range_more from (suc n) = ap (λ ks. from ∷ ks) (range_more (from + 1) n ∙ ap (λ k. range_with_len (from + 1) n ++ k ∷ []) (let same : from + 1 + n ≡ from + suc n = omega arith in same))
 
 -- one home more
-home_next : (homes : List ℕ) (workers n a : ℕ) → length homes ≡ n → ((k : ℕ) → k < n → slice_get homes k ≡ Some (k % workers)) → a < n + 1 → slice_get (homes ++ (n % workers) ∷ []) a ≡ Some (a % workers)
-home_next homes workers n a e are l = elim (cases_lt a n) [
-  | inl less ↦ early homes (n % workers) a (omega arith) ∙ are a less
-  | inr most ↦ last homes (n % workers) a (omega arith) ∙ ap (λ k. Some (k % workers)) (let same : n ≡ a = omega arith in same)
-]
+home_next : (homes : List ℕ) (workers n : ℕ) → homes ≡ homes_for n workers → homes ++ (n % workers) ∷ [] ≡ homes_for (n + 1) workers
+home_next homes workers n are =
+    let home : ℕ → ℕ = λ (actor : ℕ). actor % workers in
+    ap (λ hs. hs ++ (n % workers) ∷ []) are ∙ sym (map-append home (range_with_len 0 n) (n ∷ [])) ∙ ap (map home) (sym (range_more 0 n))
+
+count : (actors workers : ℕ) → length (homes_for actors workers) ≡ actors
+count actors workers = length-map (range_with_len 0 actors) (λ (actor : ℕ). actor % workers) ∙ length-range_with_len 0 actors
 
 -- they are workers
 all_next : (homes : List ℕ) (workers home : ℕ) → All (λ h. h < workers) homes → home < workers → All (λ h. h < workers) (homes ++ home ∷ [])
@@ -31,10 +28,10 @@ all_next (x ∷ homes) workers home all low (suc k) d l = all_next homes workers
 
 pub loop-actor-preserved : goal.loop-actor-preserved
 loop-actor-preserved c = record {
-  many = grind (arith, length-append, c.in_ok-push.ensures.items, c.loop-actor.invariant.many);
-  are = λ a l.
-      ap (λ xs. slice_get xs a) c.in_ok-push.ensures.items
-      ∙ home_next c.loop-actor.homes.items c.args.workers c.loop-actor.actor a c.loop-actor.invariant.many c.loop-actor.invariant.are l;
+  are = c.in_ok-push.ensures.items ∙ home_next c.loop-actor.homes.items c.args.workers c.loop-actor.actor c.loop-actor.invariant.are;
   low = subst (λ xs. All (λ h. h < c.args.workers) xs) (sym c.in_ok-push.ensures.items)
       (all_next c.loop-actor.homes.items c.args.workers (c.loop-actor.actor % c.args.workers) c.loop-actor.invariant.low (search rules));
 }
+
+pub returns : goal.returns
+returns c = ?

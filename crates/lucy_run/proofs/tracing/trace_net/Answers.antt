@@ -25,7 +25,7 @@ trace_pair-ending-requires-clause-kinds g c κs within =
 
 pub trace_pair-ending-requires-clause-runner_kinds : goal.trace_pair-ending-requires-clause-runner_kinds
 trace_pair-ending-requires-clause-runner_kinds g c κs within =
-    sym (ap kinds_of (ap (λ (v : RunnerView). v.seen.operators) c.in-Ok-new_runner.ensures ∙ c.ops-2.ensures))
+    sym (ap kinds_of (ap (λ (v : RunnerView). v.seen.operators) c.in-Ok-new_runner.ensures.first ∙ c.ops-2.ensures))
 
 pub trace_pair-ending-requires-clause-unbegun : goal.trace_pair-ending-requires-clause-unbegun
 trace_pair-ending-requires-clause-unbegun g c κs within = λ a.
@@ -36,7 +36,7 @@ pub trace_pair-ending-requires-clause-together : goal.trace_pair-ending-requires
 trace_pair-ending-requires-clause-together g c κs within =
     stand_together c.in-Ok.core c.in-Ok-new_runner.runner c.args.net c.args.schedule c.in-Ok.ensures.0 c.args.inputs c.ops.result.now
     c.ops-2.result.now
-    c.args.extent.horizon c.in-Ok.ensures.1 c.in-Ok-new_runner.ensures
+    c.args.extent.horizon c.in-Ok.ensures.1 c.in-Ok-new_runner.ensures.first
 
 pub returns-in-Err-clause-left : goal.returns-in-Err-clause-left
 returns-in-Err-clause-left g c = front_nothing _ _

@@ -1,13 +1,15 @@
-use Rattle.std.proofs.Common.{ℕ, ◌<◌, ◌≡◌, List, [], ◌∷◌, length, map, get_or, set, refl, sym, ◌∙◌, subst, arith, length-append}
+use Rattle.std.proofs.Common.{ℕ, ◌+◌, ◌<◌, ◌≡◌, List, [], ◌∷◌, ◌++◌, length, map, get_or, set, ap, refl, sym, ◌∙◌, subst, arith, length-append}
 use Rattle.std.specs.Prelude.{All, Some, slice_get}
 use Rattle.std.proofs.lemmas.Option.{slice_get_read}
 use Rattle.std.proofs.lemmas.Iterator.Adapters.{YieldsList-from_vec}
 use Rattle.std.proofs.lemmas.Iterator.Consumers.{YieldsList-turn, YieldsList-end}
 use Rattle.lucy_worker.specs.declared.part.Part.{Part}
 use Rattle.lucy_runner.specs.declared.place.Place.{Place}
-use Rattle.lucy_runner.specs.Making.{ArePlaced, AreNumbered, benched}
+use Rattle.lucy_runner.specs.declared.sitting.Bench.{Bench}
+use Rattle.lucy_runner.specs.Homes.{at_home}
+use Rattle.lucy_runner.specs.Making.{ArePlaced, AreNumbered, benched, homes_in}
 use Rattle.lucy_runner.proofs.PlacingLaws.{place_none}
-use Rattle.lucy_runner.proofs.BenchLaws.{bench_short, bench_more}
+use Rattle.lucy_runner.proofs.BenchLaws.{IsManned, bench_short, bench_more, homes_kept, manned_more, manned_none, manned_all}
 use Rattle.lucy_runner.proofs.HomeLaws.{rows_none}
 use Rattle.lucy_runner.proofs.sitting.place_all.Goals as goal
 
@@ -27,7 +29,11 @@ turn_is parts homes numbers benches n p numbered len all turn =
     record { below = turn.0; at = at; home = l; number = (all p.number 0 l).0; seat = (all p.number 0 l).1 }
 
 pub loop-part-init : goal.loop-part-init
-loop-part-init c = subst (λ (xs : List Place). ArePlaced c.args.parts.items 0 (map benched c.args.benches.now) xs) (sym c.new-places.ensures.items) (place_none c.args.parts.items (map benched c.args.benches.now) (rows_none c.args.benches.now c.requires.empty))
+loop-part-init c = record {
+  placed = subst (λ (xs : List Place). ArePlaced c.args.parts.items 0 (map benched c.args.benches.now) xs) (sym c.new-places.ensures.items) (place_none c.args.parts.items (map benched c.args.benches.now) (rows_none c.args.benches.now c.requires.empty));
+  homes = refl;
+  manned = manned_none c.args.homes.now c.args.benches.now c.requires.empty;
+}
 
 pub bounds-homes-part : goal.bounds-homes-part
 bounds-homes-part c =
@@ -58,7 +64,7 @@ sit_down-requires c =
     let turn = YieldsList-turn road c.loop-part.yielded c.loop-part.part-iterator c.loop-part.yielded_by c.next.result c.next.new.self c.in-Some.part c.in-Some.is c.next.ensures.steps in
     let is = turn_is c.args.parts.items c.args.homes.now c.args.numbers.now (length c.args.benches.now) (length c.loop-part.yielded) c.in-Some.part c.requires.numbered c.requires.homes c.requires.seats turn in
     let seat : ℕ = get_or c.args.numbers.now (get_or c.args.homes.now c.in-Some.part.number 0) 0 in
-    let short = bench_short c.args.parts.items (length c.loop-part.yielded) c.loop-part.benches c.loop-part.places.items seat c.index-benches-seat.result c.loop-part.invariant (omega (arith, is.seat, c.loop-part.auto.benches)) in
+    let short = bench_short c.args.parts.items (length c.loop-part.yielded) c.loop-part.benches c.loop-part.places.items seat c.index-benches-seat.result c.loop-part.invariant.placed (omega (arith, is.seat, c.loop-part.auto.benches)) in
     omega (arith, short, is.below, c.requires.few)
 
 pub loop-part-preserved : goal.loop-part-preserved
@@ -68,13 +74,36 @@ loop-part-preserved c =
     let turn = YieldsList-turn road c.loop-part.yielded c.loop-part.part-iterator c.loop-part.yielded_by c.next.result c.next.new.self c.in-Some.part c.in-Some.is c.next.ensures.steps in
     let is = turn_is c.args.parts.items c.args.homes.now c.args.numbers.now (length c.args.benches.now) (length c.loop-part.yielded) c.in-Some.part c.requires.numbered c.requires.homes c.requires.seats turn in
     let seat : ℕ = get_or c.args.numbers.now (get_or c.args.homes.now c.in-Some.part.number 0) 0 in
-    subst (λ (k : ℕ). ArePlaced c.args.parts.items k (map benched (set c.loop-part.benches seat c.sit_down.new.bench)) c.push.new.list.items) (sym (length-append c.loop-part.yielded (c.in-Some.part ∷ [])))
-    (bench_more c.args.parts.items (length c.loop-part.yielded) c.loop-part.benches c.loop-part.places.items c.push.new.list.items seat c.index-benches-seat.result c.sit_down.new.bench c.in-Some.part c.in_ok-place.place
-    c.loop-part.invariant c.requires.numbered is.at (omega (arith, is.seat, c.loop-part.auto.benches)) c.in_ok-place.ensures.more c.in_ok-place.ensures.at c.in_ok-push.ensures)
+    let n : ℕ = length c.loop-part.yielded in
+    let next : length (c.loop-part.yielded ++ c.in-Some.part ∷ []) ≡ n + 1 = length-append c.loop-part.yielded (c.in-Some.part ∷ []) in
+    let number : c.in-Some.part.number ≡ n = c.requires.numbered n c.in-Some.part is.at in
+    let old : List Bench = c.loop-part.benches in
+    let b : Bench = c.sit_down.new.bench in
+    let inside : seat < length old = omega (arith, is.seat, c.loop-part.auto.benches) in
+    let kept : homes_in old ≡ homes_in c.args.benches.now = c.loop-part.invariant.homes in
+    let home : ℕ = get_or c.args.homes.now c.in-Some.part.number 0 in
+    let own : slice_get (homes_in old) seat ≡ Some home = ap (λ hs. slice_get hs seat) kept ∙ c.requires.own c.in-Some.part.number 0 is.home in
+    record {
+      placed = subst (λ (k : ℕ). ArePlaced c.args.parts.items k (map benched (set old seat b)) c.push.new.list.items) (sym next)
+          (bench_more c.args.parts.items n old c.loop-part.places.items c.push.new.list.items seat c.index-benches-seat.result b c.in-Some.part c.in_ok-place.place
+          c.loop-part.invariant.placed c.requires.numbered is.at inside c.in_ok-place.ensures.more c.in_ok-place.ensures.at c.in_ok-push.ensures);
+      homes = homes_kept old seat c.index-benches-seat.result b inside c.in_ok-place.ensures.home ∙ kept;
+      manned = subst (λ (k : ℕ). All (IsManned c.args.homes.now k) (set old seat b)) (sym next)
+          (manned_more c.args.homes.now c.args.numbers.now n old seat c.index-benches-seat.result b c.in-Some.part c.loop-part.invariant.manned inside number
+          (own ∙ ap (λ a. Some (get_or c.args.homes.now a 0)) number) (λ k h e. c.requires.known k h (ap (λ hs. slice_get hs k) (sym kept) ∙ e)) c.in_ok-place.ensures.home c.in_ok-place.ensures.more);
+    }
 
-pub returns : goal.returns
-returns c =
+pub returns-clause-placed : goal.returns-clause-placed
+returns-clause-placed c =
     let b = c.into_iter-part-iterator.ensures.into_iter_gives in
     let road = YieldsList-from_vec {s = c.into_iter-part-iterator.result} c.args.parts.items b.0 (b.1 ∙ c.args.parts.ok.0) in
     let end = YieldsList-end road c.loop-part.yielded c.loop-part.part-iterator c.loop-part.yielded_by c.next.result c.next.new.self c.in-None.is c.next.ensures.steps in
-    subst (λ (k : ℕ). ArePlaced c.args.parts.items k (map benched c.loop-part.benches) c.loop-part.places.items) end.1 c.loop-part.invariant
+    subst (λ (k : ℕ). ArePlaced c.args.parts.items k (map benched c.loop-part.benches) c.loop-part.places.items) end.1 c.loop-part.invariant.placed
+
+pub returns-clause-homed : goal.returns-clause-homed
+returns-clause-homed c =
+    let b = c.into_iter-part-iterator.ensures.into_iter_gives in
+    let road = YieldsList-from_vec {s = c.into_iter-part-iterator.result} c.args.parts.items b.0 (b.1 ∙ c.args.parts.ok.0) in
+    let end = YieldsList-end road c.loop-part.yielded c.loop-part.part-iterator c.loop-part.yielded_by c.next.result c.next.new.self c.in-None.is c.next.ensures.steps in
+    manned_all c.args.homes.now c.loop-part.benches (subst (λ (k : ℕ). All (IsManned c.args.homes.now k) c.loop-part.benches) (end.1 ∙ sym c.requires.homes) c.loop-part.invariant.manned)
+    ∙ ap (map (at_home c.args.homes.now)) c.loop-part.invariant.homes

@@ -10,6 +10,7 @@ rounds-init g c = record {
   printed = none_printed c.args.core.now (g.K.Sink.seen c.args.out.now);
   together = c.requires.together;
   operators = refl;
+  crew = refl;
   count = c.requires.count;
   faults = omega arith;
 }
@@ -22,6 +23,7 @@ rounds-preserved g c =
           c.trace_round.new.core (g.K.Sink.seen c.trace_round.new.out) printed;
       together = c.in-Ok.ensures.together;
       operators = c.trace_round.ensures.operators ∙ c.rounds.invariant.operators;
+      crew = c.trace_round.ensures.crew ∙ c.rounds.invariant.crew;
       count = c.trace_round.auto.counts ∙ c.rounds.invariant.count ∙ sym (ap (λ (s : Seen). length s.net.actors) printed.here);
       faults = omega (arith, c.trace_round.ensures.faults, c.rounds.invariant.faults);
     }
@@ -42,3 +44,9 @@ pub returns-clause-ok : goal.returns-clause-ok
 returns-clause-ok g c =
     all_printed c.args.core.now c.rounds.core (g.K.Sink.seen c.args.out.now) (g.K.Sink.seen c.rounds.out) c.runs_go_on.ensures.joined c.rounds.invariant.printed
     (same_end c.events_go_by_the_net.ensures c.rounds.core c.rounds.runner.seen c.rounds.invariant.together (c.finished.ensures.0 c.rounds-test.false))
+
+pub returns-in-Err-clause-crew : goal.returns-in-Err-clause-crew
+returns-in-Err-clause-crew g c = c.trace_round.ensures.crew ∙ c.rounds.invariant.crew
+
+pub returns-clause-crew : goal.returns-clause-crew
+returns-clause-crew g c = c.rounds.invariant.crew

@@ -9,6 +9,7 @@ invariant-rounds g l = record {
   printed : AreRoundsPrinted l.fn.core l.core (g.K.Sink.seen l.fn.out) (g.K.Sink.seen l.out);
   together : AreTogether l.core l.runner.seen;
   operators : l.runner.seen.operators ≡ l.fn.runner.seen.operators;
+  crew : l.runner.crew ≡ l.fn.runner.crew;
   count : length l.counts ≡ length l.core.net.actors;
   faults : (g.K.Sink.seen l.fn.out).faults ≤ (g.K.Sink.seen l.out).faults;
 }

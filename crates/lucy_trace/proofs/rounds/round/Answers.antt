@@ -46,5 +46,6 @@ returns g c =
       together = on_ok c.catch_up.result (there ≡ record core { done = counts }) (AreTogether there next) c.catch_up.ensures.there
           (λ is. next_together core runner next moves c.requires.together round counts there same is);
       operators = ap (λ (s : Seen). s.operators) round.is;
+      crew = c.round_in_place.ensures.crew;
       refused = c.catch_up.ensures.refused;
     }

@@ -24,5 +24,5 @@ returns-clause-ok g c =
     let x = c.self.inside in
     let same = ap (λ (v : PlayerView). length v.inputs) c.self.view_is in
     on_is x.placed.now.nodes x.clocks.now c.nodes.ensures.proper x.runner c.more.new.self c.go.new.self c.args.added.now c.args.instants c.go.ensures.run.0 c.self.invariant (c.requires.inputs ∙ sym same) c.in_ok-more.ensures.ok
-    c.go.ensures.run.2 c.go.ensures.before
+    c.go.ensures.run.2 c.go.ensures.before c.go.ensures.crew
     ∙ ap (λ (v : PlayerView). record v { inputs = joined v.inputs c.args.added.now; instants = c.args.instants; before = v.instants }) c.self.view_is

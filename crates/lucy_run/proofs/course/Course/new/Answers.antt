@@ -1,5 +1,6 @@
-use Rattle.std.proofs.Common.{refl, arith}
+use Rattle.std.proofs.Common.{ap, refl, arith}
 use Rattle.lucy_word.proofs.BitsLaws.{ones_to-none}
+use Rattle.lucy_results.specs.Playing.{PlayerView, crew_for}
 use Rattle.lucy_run.proofs.CourseLaws.{begin}
 use Rattle.lucy_run.proofs.HorizonLaws.{few_most}
 use Rattle.lucy_run.proofs.course.Course.new.Goals as goal
@@ -13,8 +14,9 @@ returns-in-Ok g c = record {
     refl,
     refl,
     refl,
-    λ source. begin _ _ c.in_ok-reader.none c.in_ok-reader.ensures.begun c.in_ok-reader.ensures.kept c.in_ok-reader.ensures.fresh c.in_ok-reader.ensures.empty c.in-Ok.ensures
+    λ source. begin _ _ c.in_ok-reader.none (crew_for c.args.net c.args.pace.workers) c.in_ok-reader.ensures.begun c.in_ok-reader.ensures.kept c.in_ok-reader.ensures.fresh c.in_ok-reader.ensures.empty c.in-Ok.ensures
         c.param_words-words.ensures.words refl refl refl
         (few_most c.args.pace.instants c.requires.pace.few) c.requires.pace.block source,
   );
+  crew = ap (λ (v : PlayerView). v.crew) c.in-Ok.ensures;
 }

@@ -21,6 +21,7 @@ loop-self-init g c =
         is = ap (λ (v : RunnerView). v.seen) same;
       },
       ap (λ (v : RunnerView). v.before) same,
+      ap (λ (v : RunnerView). v.crew) same,
     )
 
 pub round_in_place-requires-clause-kinds : goal.round_in_place-requires-clause-kinds
@@ -34,6 +35,7 @@ loop-self-preserved-then-in_place g c =
     let e = c.round_in_place.ensures in (
       one_more_round c.args.self.now.seen c.loop-self.self.seen c.round_in_place.new.self.seen c.round_in_place.result c.loop-self.invariant.0 e.round,
       e.before ∙ c.loop-self.invariant.1,
+      e.crew ∙ c.loop-self.invariant.2,
     )
 
 pub loop-self-smaller-then-in_place : goal.loop-self-smaller-then-in_place
@@ -46,6 +48,7 @@ loop-self-preserved g c =
     let e = c.round.ensures in (
       one_more_round c.args.self.now.seen c.loop-self.self.seen c.round.new.self.seen c.round.result c.loop-self.invariant.0 e.round,
       e.before ∙ c.loop-self.invariant.1,
+      e.crew ∙ c.loop-self.invariant.2,
     )
 
 pub loop-self-smaller : goal.loop-self-smaller
@@ -59,5 +62,6 @@ returns g c =
     record {
       run = (led.picks, led.run, led.is);
       before = c.loop-self.invariant.1;
+      crew = c.loop-self.invariant.2;
       finished = c.finished.ensures.0 c.loop-self-test.false;
     }

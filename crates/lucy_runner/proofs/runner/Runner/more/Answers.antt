@@ -60,7 +60,7 @@ invariant_of-self-2 c =
     let last : List Seat = (with_items x.seats grown).items in
     let back : last ≡ grown = with_items_is x.seats grown (omega (arith, c.grow_all.auto.seats, c.as_mut_slice.ensures.len)) in
     let now : Seen = seen_by x.net x.schedule x.ops c.args.instants (crew_of last) x.places.items in
-    let over : IsMore was now x.instants c.args.instants (crew_of last) x.places.items x.ends.items c.args.inputs.now =
+    let over : IsMore was now x.instants c.args.instants (crew_of x.seats.items) (crew_of last) x.places.items x.ends.items c.args.inputs.now =
     more_here x.net x.schedule x.ops x.before x.instants c.args.instants x.seats.items c.as_mut_slice.result.now grown last x.places.items x.ends.items c.args.inputs.now
     c.self.invariant.0 asked c.as_mut_slice.ensures.value c.in_ok-grow_all.ensures.ok back in
     (over.stands, c.self.invariant.1)
@@ -76,7 +76,7 @@ returns-clause-ok c =
     let last : List Seat = (with_items x.seats grown).items in
     let back : last ≡ grown = with_items_is x.seats grown (omega (arith, c.grow_all.auto.seats, c.as_mut_slice.ensures.len)) in
     let now : Seen = seen_by x.net x.schedule x.ops c.args.instants (crew_of last) x.places.items in
-    let over : IsMore was now x.instants c.args.instants (crew_of last) x.places.items x.ends.items c.args.inputs.now =
+    let over : IsMore was now x.instants c.args.instants (crew_of x.seats.items) (crew_of last) x.places.items x.ends.items c.args.inputs.now =
     more_here x.net x.schedule x.ops x.before x.instants c.args.instants x.seats.items c.as_mut_slice.result.now grown last x.places.items x.ends.items c.args.inputs.now
     c.self.invariant.0 asked c.as_mut_slice.ensures.value c.in_ok-grow_all.ensures.ok back in
     more_view x.net x.schedule x.ops x.before x.instants c.args.instants x.seats.items last x.places.items x.ends.items c.args.inputs.now c.self.invariant.0 over
@@ -93,7 +93,7 @@ returns-clause-same c =
     let last : List Seat = (with_items x.seats grown).items in
     let back : last ≡ grown = with_items_is x.seats grown (omega (arith, c.grow_all.auto.seats, c.as_mut_slice.ensures.len)) in
     let now : Seen = seen_by x.net x.schedule x.ops c.args.instants (crew_of last) x.places.items in
-    let over : IsMore was now x.instants c.args.instants (crew_of last) x.places.items x.ends.items c.args.inputs.now =
+    let over : IsMore was now x.instants c.args.instants (crew_of x.seats.items) (crew_of last) x.places.items x.ends.items c.args.inputs.now =
     more_here x.net x.schedule x.ops x.before x.instants c.args.instants x.seats.items c.as_mut_slice.result.now grown last x.places.items x.ends.items c.args.inputs.now
     c.self.invariant.0 asked c.as_mut_slice.ensures.value c.in_ok-grow_all.ensures.ok back in
     subst (λ (s : Seen). IsSame (state_of now) (state_of s)) view over.same
@@ -109,7 +109,7 @@ returns-clause-joined c =
     let last : List Seat = (with_items x.seats grown).items in
     let back : last ≡ grown = with_items_is x.seats grown (omega (arith, c.grow_all.auto.seats, c.as_mut_slice.ensures.len)) in
     let now : Seen = seen_by x.net x.schedule x.ops c.args.instants (crew_of last) x.places.items in
-    let over : IsMore was now x.instants c.args.instants (crew_of last) x.places.items x.ends.items c.args.inputs.now =
+    let over : IsMore was now x.instants c.args.instants (crew_of x.seats.items) (crew_of last) x.places.items x.ends.items c.args.inputs.now =
     more_here x.net x.schedule x.ops x.before x.instants c.args.instants x.seats.items c.as_mut_slice.result.now grown last x.places.items x.ends.items c.args.inputs.now
     c.self.invariant.0 asked c.as_mut_slice.ensures.value c.in_ok-grow_all.ensures.ok back in
     subst (λ (s : Seen). GoesOn s now x.instants) view over.joined

@@ -1,4 +1,5 @@
 use Rattle.std.proofs.Common.{ap, ◌∙◌}
+use Rattle.lucy_runner.specs.Homes.{actors_by}
 use Rattle.lucy_runner.specs.Crews.{crew_of}
 use Rattle.lucy_runner.proofs.SetOutLaws.{first_same}
 use Rattle.lucy_runner.proofs.FirstLaws.{stands_first}
@@ -17,5 +18,8 @@ returns c =
     let r = c.into_parts-parts.result in
     let w = c.in_ok-crew.crew in
     let is = c.into_parts-parts.ensures in
-    made_first r.net r.schedule r.inputs r.ops r.instants (crew_of w.seats.items) w.places.items w.ends.items is.fixed c.in_ok-crew.ensures.made
-    ∙ ap view_first (first_same r.net c.args.core.net r.schedule c.args.core.schedule r.inputs c.args.core.inputs r.ops c.args.core.operators r.instants c.args.core.instants is.net is.schedule is.inputs is.ops is.instants)
+    record {
+      first = made_first r.net r.schedule r.inputs r.ops r.instants (crew_of w.seats.items) w.places.items w.ends.items is.fixed c.in_ok-crew.ensures.made
+          ∙ ap (view_first (actors_by (crew_of w.seats.items))) (first_same r.net c.args.core.net r.schedule c.args.core.schedule r.inputs c.args.core.inputs r.ops c.args.core.operators r.instants c.args.core.instants is.net is.schedule is.inputs is.ops is.instants);
+      crew = c.in_ok-crew.ensures.homed;
+    }

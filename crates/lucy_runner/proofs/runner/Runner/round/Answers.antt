@@ -89,3 +89,21 @@ returns-clause-round g c =
     let next : Seen = seen_by x.net x.schedule x.ops x.instants (crew_of (back_in x.seats.len c.meet_all.new.seats x.seats.items))
     x.places.items in
     subst (λ (v : RunnerView). IsRoundTo v.seen next (c.turn_apart-turned.result + c.passes_along.result)) c.self.view_is over.leads
+
+pub returns-clause-crew : goal.returns-clause-crew
+returns-clause-crew g c =
+    let x = c.self.inside in
+    let ks = kinds_of (lent c.args.host.now) in
+    let kinds : kinds_of x.ops ≡ ks = ap (λ (v : RunnerView). kinds_of v.seen.operators) c.self.view_is ∙ sym c.requires.kinds in
+    let entry : List Seat = c.as_mut_slice-seats.result.now in
+    let turn : HaveTurned ks (crew_of entry) (crew_of c.turn_apart-turned.new.seats) c.turn_apart-turned.result = c.turn_apart-turned.ensures.turned in
+    let turned : HaveTurned ks (crew_of entry) (crew_of c.passes_along.new.seats) (c.turn_apart-turned.result + c.passes_along.result) =
+    turned_on ks (crew_of entry) (crew_of c.turn_apart-turned.new.seats) (crew_of c.passes_along.new.seats) c.turn_apart-turned.result c.passes_along.result turn
+    c.passes_along.ensures.run in
+    let over = round_here x.net x.schedule x.ops x.instants x.before (c.turn_apart-turned.result + c.passes_along.result) x.seats.len ks
+    x.seats.items entry c.passes_along.new.seats
+    x.places.items c.as_slice-2.result.now x.ends.items c.as_slice-3.result.now c.list.result.now
+    c.self.invariant.0 kinds c.as_mut_slice-seats.ensures.value c.as_slice-2.ensures.value c.as_slice-3.ensures.value c.list.ensures turned
+    c.meet_all.new.seats
+    (c.meet_all.auto.seats ∙ c.passes_along.auto.seats ∙ c.turn_apart-turned.auto.seats ∙ c.as_mut_slice-seats.ensures.len) c.meet_all.ensures in
+    over.kept ∙ ap (λ (v : RunnerView). v.crew) c.self.view_is
