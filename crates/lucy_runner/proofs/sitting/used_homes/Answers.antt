@@ -1,4 +1,4 @@
-use Rattle.std.proofs.Common.{ℕ, ◌<◌, ◌≡◌, length, get_or, ◌∙◌, arith}
+use Rattle.std.proofs.Common.{ℕ, ◌<◌, get_or, ◌∙◌, arith}
 use Rattle.std.proofs.lemmas.List.{length-set}
 use Rattle.std.proofs.lemmas.List.Elements.{All-get_or}
 use Rattle.lucy_runner.proofs.HomeLaws.{only_more, marked_more}
