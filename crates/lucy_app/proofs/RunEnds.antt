@@ -23,12 +23,13 @@ use Rattle.lucy_app.specs.Answers.{Answer, OutputOf}
 use Rattle.lucy_app.specs.Endings.{ended_answer}
 use Rattle.lucy_app.specs.Owes.{Owes, OwesOutput}
 use Rattle.lucy_app.specs.Ends.{EndsBy, MayStand, MayFail}
-use Rattle.lucy_app.specs.Running.{IsRunnable, OwesRunning}
-use Rattle.lucy_app.specs.Outcomes.{IsAccepting, RunOutputs, EndsRunning, OfProgram, TellsEnding, TellsRefusal}
+use Rattle.lucy_app.specs.Running.{IsRunnable, OfRunnable, OwesRunning}
+use Rattle.lucy_app.specs.Outcomes.{IsAccepting, NoRun, refusal_answer, RunOutputs, EndsRunning, OfProgram, TellsEnding, TellsRefusal}
 use Rattle.lucy_lines.specs.Feeding.{IsAsked}
 use Rattle.lucy_command.specs.Named.{block_or_default}
 use Rattle.lucy_run.specs.declared.ending.Ending.TheVariants.{WriteFault}
 use Rattle.lucy_app.specs.declared.refusal.Refusal.{Refusal}
+use Rattle.lucy_app.specs.declared.refusal.Refusal.TheVariants.{OutOfMemory}
 use Rattle.lucy_app.proofs.Runs.{text_more, ends_unrun, ends_run}
 
 pub some_or_none : (inputs : List InputSpec) → (inputs ≡ []) ⊎ (inputs ≢ [])
@@ -53,12 +54,21 @@ module _ (ops lends : List Operator) (found o : Options) (instants : Option ℕ)
       let P : Result Accepted Refusal → Type 0 = λ r. IsAccepting lends o instants fetched r in
       subst P is accepting_so
 
+  -- and what isn't is refused, unless memory ran out
+  pub refused_so : (e : Refusal) → answer ≡ Err e → (e ≡ OutOfMemory) ⊎ OwesRunning NoRun lends o instants Unread fetched (refusal_answer e)
+  refused_so e is =
+      let P : Result Accepted Refusal → Type 0 = λ r. IsAccepting lends o instants fetched r in
+      subst P is accepting_so
+
 -- a program that can be run
 module _ (ops : List Operator) (o : Options) (instants : Option ℕ) (fetched : List (Result (List ℕ) ShelfError)) (a : Accepted)
     (runnable : HasText fetched (λ text. IsRunnable ops o instants text a)) where
   -- what holds of it holds of a program that was fetched
   pub of_program : (Holds : Accepted → Type 0) → Holds a → OfProgram Holds ops o fetched
   of_program Holds holds = text_more fetched _ _ (λ text can. (a, can.0, holds)) runnable
+
+  pub of_runnable : (Holds : Accepted → Type 0) → Holds a → OfRunnable Holds ops o instants fetched
+  of_runnable Holds holds = text_more fetched _ _ (λ text can. (a, can, holds)) runnable
 
   -- what was read is what it asked for
   pub reads_so : (before after : SeenSource) (taken : List ℕ) → (a.inputs.items ≡ [] → after ≡ before) → IsAsked a.inputs.items taken →
@@ -75,14 +85,13 @@ module _ (Owed : List ℕ → ReadStop → Accepted → List ℕ → Ending → 
   pub unrun : (s : SeenSource) (out err err' : SeenSink) (status : ℕ) (e : Refusal) → answer ≡ Err e → TellsRefusal e err err' status →
       (taken : List ℕ) × (stop : ReadStop) × Read (limit_number limit.Input) s s taken stop × ReadsSo lends o fetched s s taken
       × EndsRunning (Owed taken stop) (MayBreak taken stop) (OfProgram (λ a. Order taken stop a out out) lends o fetched) lends o instants stop fetched out out err err' status
-  unrun s out err err' status e is told =
-      let P : Result Accepted Refusal → Type 0 = λ r. IsAccepting lends o instants fetched r in (
-        [],
-        Unread,
-        record { took = sym (followed-nil s.left); stopped = (refl, refl); none_follows = still_none s.since_stop },
-        inl refl,
-        ends_unrun (Owed [] Unread) (MayBreak [] Unread) _ lends o instants fetched e out out err err' status (subst P is (accepting_so ops lends found o instants fetched answer same is_o accepting)) refl told,
-      )
+  unrun s out err err' status e is told = (
+    [],
+    Unread,
+    record { took = sym (followed-nil s.left); stopped = (refl, refl); none_follows = still_none s.since_stop },
+    inl refl,
+    ends_unrun (Owed [] Unread) (MayBreak [] Unread) _ lends o instants fetched e out out err err' status (refused_so ops lends found o instants fetched answer same is_o accepting e is) refl told,
+  )
 
   -- the program was run
   pub ran : (before after : SeenSource) (out out' err err' : SeenSink) (status : ℕ) (a : Accepted) (end : Ending) → answer ≡ Ok a → (a.inputs.items ≡ [] → after ≡ before) →

@@ -43,7 +43,7 @@ use Rattle.lucy_command.specs.Commands.{ProgramWords, Command, Run}
 use Rattle.lucy_app.specs.ProgramRefusals.{program_status}
 use Rattle.lucy_app.specs.Answers.{Answer, refused, program_refused, read_fault, limit_passed, no_instants}
 use Rattle.lucy_app.specs.Commands.{program_of, inferring_options, HasText}
-use Rattle.lucy_app.specs.World.{World, Given, Fetched, Fetches, HasMet}
+use Rattle.lucy_app.specs.World.{World, Given, Fetched, Fetches, HasMetWorld}
 use Rattle.lucy_app.specs.Endings.{write_fault_line, fault_told, ending_told, ended_answer}
 use Rattle.lucy_app.specs.Programs.{OwesUnfetched}
 use Rattle.lucy_app.specs.Running.{LacksInstants, IsRunnable, OwesEnded, OwesRunning}
@@ -409,14 +409,14 @@ module _ (laws : Laws) (words : ProgramWords) (workers : ℕ) (block : Option �
       (a : Accepted) × IsRunnable given.operators found words.instants text a × LinesAllow (kinds_of given.operators) a words.instants given.taken given.stop whole
 
   module _ (text : List ℕ) (told : IsSomeAnd before.shelf.files (λ held. held words.file ≡ Some text)) where
-    came_so : (given : Given) → HasMet (Run words workers block) before after given → (answer : Answer) → Owes (Run words workers block) given answer →
+    came_so : (given : Given) → HasMetWorld (Run words workers block) before after given → (answer : Answer) → Owes (Run words workers block) given answer →
         Came given.operators found words.instants given.taken given.stop text answer
     came_so given met answer owed = came given.operators found words.instants given.taken given.stop words.file text before.shelf after.shelf given.fetched answer told met.shelf owed
 
-    may_print : (given : Given) → HasMet (Run words workers block) before after given → (whole : List ℕ) → OwesOutput (Run words workers block) given whole → MayPrint given whole text
+    may_print : (given : Given) → HasMetWorld (Run words workers block) before after given → (whole : List ℕ) → OwesOutput (Run words workers block) given whole → MayPrint given whole text
     may_print given met whole owed = fetched_text words.file text before.shelf after.shelf given.fetched (MayPrint given whole) told met.shelf owed
 
-    met_leaves : (given : Given) → HasMet (Run words workers block) before after given → (more output : List ℕ) → (is_closed given.stop ≡ true → more ≡ []) →
+    met_leaves : (given : Given) → HasMetWorld (Run words workers block) before after given → (more output : List ℕ) → (is_closed given.stop ≡ true → more ≡ []) →
         before.out.written ≡ Some [] → after.out.written ≡ Some output → EndsMet given → Leaves given.operators found words.instants text (given.taken ++ more) output status
     met_leaves given met more output shut empty stands (inl (answer, inl owed, answers)) =
         answered laws given.operators found words.instants text given.taken more given.stop shut answer output status (came_so given met answer owed)
@@ -448,7 +448,7 @@ module _ (laws : Laws) (words : ProgramWords) (workers : ℕ) (block : Option �
         (stands_so before.out after.out [] output answers.printed.written empty stands) (λ e. omega arith) (λ e. omega arith) (λ e. absurd (omega arith))
 
     -- no status 1 where a written program stands for something, and no 2 where it has inputs
-    met_unrefused : (given : Given) → HasMet (Run words workers block) before after given → EndsMet given →
+    met_unrefused : (given : Given) → HasMetWorld (Run words workers block) before after given → EndsMet given →
         (program : ProgramTree) (m : Meaning) → HasTree text program → StandsFor given.operators program m → IsSuited status m
     met_unrefused given met (inl (answer, inl owed, answers)) program m read stands =
         unrefused laws given.operators found words.instants text given.taken given.stop answer status (came_so given met answer owed)
@@ -481,7 +481,7 @@ module _ (words : ProgramWords) (workers : ℕ) (block : Option ℕ) (before aft
         λ six. elim told [ inl e ↦ elim is [ inl f ↦ omega (arith, e, f) | inr f ↦ omega (arith, e, f) ] | inr e ↦ omega (arith, e) ],
       )
 
-  absent_met : (given : Given) → HasMet called before after given →
+  absent_met : (given : Given) → HasMetWorld called before after given →
       EndsBy (Owes called given) (MayStand called given) (MayFail called given before.out after.out) before.out after.out before.err after.err status → IsAbsent
   absent_met given met (inl (answer, inl owed, answers)) =
       unread_left answer (unread_owed given.operators (inferring_options words.scale words.lead) words.instants given.taken given.stop words.file before.shelf after.shelf given.fetched answer lacks met.shelf owed) answers

@@ -8,7 +8,7 @@ use Rattle.lucy_command.specs.Commands.{ProgramWords, Command, Run}
 use Rattle.lucy_app.specs.Commands.{running_words}
 use Rattle.lucy_run.specs.Ends.{IsFrontOf}
 use Rattle.lucy_text.specs.Outside.{SeenSink, Writes}
-use Rattle.lucy_app.specs.World.{World, Given, HasMet}
+use Rattle.lucy_app.specs.World.{World, Given, HasMetWorld}
 use Rattle.lucy_app.specs.Endings.{write_fault_line}
 use Rattle.lucy_front.specs.Refusals.{memory_line}
 use Rattle.lucy_app.specs.Answers.{Answer, printed, no_command, no_instants, no_buffer, read_fault, out_of_memory}
@@ -127,14 +127,14 @@ ends_begun found command before after status is ends =
     subst P is (inl ends)
 
 -- a command that was carried out, and came out so
-pub ends_some : (found command : Command) (given : Given) (outcome : Result (Vec ℕ Global) Refusal) (before after : World) (status : ℕ) → command ≡ found → HasMet command before after given →
+pub ends_some : (found command : Command) (given : Given) (outcome : Result (Vec ℕ Global) Refusal) (before after : World) (status : ℕ) → command ≡ found → HasMetWorld command before after given →
     running_words command ≡ None → StopsInOrder command given before.out after.out → IsOwedOutcome (Owes command given) outcome → Delivers outcome before.out after.out before.err after.err status → EndsSo found before after status
 ends_some found command given outcome before after status is met none order owed told =
     let P : Command → Type 0 = λ c. EndsSo c before after status in
     subst P is (given, met, ends_so command given outcome before after status none order owed told)
 
 -- and that ends so
-pub ends_with : (found command : Command) (given : Given) (before after : World) (status : ℕ) → command ≡ found → HasMet command before after given → EndsGiven command given before after status →
+pub ends_with : (found command : Command) (given : Given) (before after : World) (status : ℕ) → command ≡ found → HasMetWorld command before after given → EndsGiven command given before after status →
     EndsSo found before after status
 ends_with found command given before after status is met ends =
     let P : Command → Type 0 = λ c. EndsSo c before after status in

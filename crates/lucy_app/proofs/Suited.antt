@@ -43,7 +43,7 @@ use Rattle.lucy_command.specs.Commands.{ProgramWords, Command, Order, Show, Type
 use Rattle.lucy_tight.specs.Laws.{OneTightest}
 use Rattle.lucy_app.specs.Outcomes.{NoRun, OwesNamed, EndsGiven}
 use Rattle.lucy_app.specs.Commands.{written_options, inferring_options, Wanted, program_of, log_of}
-use Rattle.lucy_app.specs.World.{World, Given, Fetched, Fetches, HasMet}
+use Rattle.lucy_app.specs.World.{World, Given, Fetched, Fetches, HasMetWorld}
 use Rattle.lucy_app.specs.Answers.{Answer, printed, out_of_memory}
 use Rattle.lucy_app.specs.Order.{IsVerdictLine}
 use Rattle.lucy_app.specs.Show.{IsPrintOf}
@@ -307,7 +307,7 @@ logged_done again ops words name taken stop before after (a, lists, horizon, (te
 module _ (cut : OneCut) (horizons : OneHorizon) (run : CompleteRun) (kahn : CompleteInterpretation) (again : CompleteReplay)
     (trace : CompleteTrace) (tight : OneTightest)
     (before after : World) (output : List ℕ) (status : ℕ) (well : IsFaultless before after) where
-  carried_out : (command : Command) (given : Given) → HasMet command before after given → EndsGiven command given before after status →
+  carried_out : (command : Command) (given : Given) → HasMetWorld command before after given → EndsGiven command given before after status →
       MayWith given.operators command before output → Finishes (MayWith given.operators command before) before after status
   carried_out Order given met ends suits =
       done (MayWith given.operators Order before) Order before after given output status suits

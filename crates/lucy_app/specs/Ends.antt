@@ -11,7 +11,7 @@ use Rattle.lucy_run.specs.Ends.{IsFrontOf, FailsInOrder}
 use Rattle.lucy_command.specs.Commands.{Command, Run}
 use Rattle.lucy_command.specs.Named.{block_or_default}
 use Rattle.lucy_app.specs.Commands.{inferring_options, running_words, HasText}
-use Rattle.lucy_app.specs.World.{World, Given, HasMet}
+use Rattle.lucy_app.specs.World.{World, Given, HasMetWorld}
 use Rattle.lucy_app.specs.Answers.{Answer, no_command, out_of_memory}
 use Rattle.lucy_app.specs.Endings.{write_fault_line, fault_told, ending_told}
 use Rattle.lucy_app.specs.Owes.{Owes, OwesOutput}
@@ -66,7 +66,7 @@ Declines answer before after status = (after.shelf ≡ before.shelf) × (after.s
 -- how the top call ends that carries out a command, by what it has met
 abbrev pub EndsSo : Command → (before after : World) (status : ℕ) → Type 0
 EndsSo command before after status =
-    (given : Given) × HasMet command before after given
+    (given : Given) × HasMetWorld command before after given
     × EndsBy (Owes command given) (MayStand command given) (MayFail command given before.out after.out) before.out after.out before.err after.err status
 
 -- how the top call ends, where the words name this command or none; memory may run out before the command is carried out

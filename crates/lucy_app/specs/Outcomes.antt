@@ -32,7 +32,7 @@ use Rattle.lucy_run.specs.declared.ending.Ending.{Ending}
 use Rattle.lucy_app.specs.Answers.{Answer, OutputOf, printed, read_fault, no_instants, no_buffer, program_refused, input_refused, log_refused, out_of_memory}
 use Rattle.lucy_app.specs.Commands.{HasText}
 use Rattle.lucy_app.specs.Order.{verdict_line}
-use Rattle.lucy_app.specs.Running.{IsRunnable, OwesRunning}
+use Rattle.lucy_app.specs.Running.{IsRunnable, OfRunnable, OwesRunning}
 pub use Rattle.lucy_app.specs.Running.{OfProgram}
 use Rattle.lucy_app.specs.Replaying.{OwesEvents, OwesLog}
 use Rattle.lucy_text.specs.Sources.{ReadStop, Unread}
@@ -143,7 +143,7 @@ IsAccepting ops o instants fetched accepted =
 -- an output of which this holds of the program that is run of what was fetched
 abbrev pub RunOutputs : (MayBreak : Accepted → List ℕ → Type 0) → List Operator → Options → (instants : Option ℕ) → List (Result (List ℕ) ShelfError) →
     (output : List ℕ) → Type 0
-RunOutputs MayBreak ops o instants fetched output = HasText fetched (λ text. (a : Accepted) × IsRunnable ops o instants text a × MayBreak a output)
+RunOutputs MayBreak ops o instants fetched output = OfRunnable (λ a. MayBreak a output) ops o instants fetched
 
 -- how a command ends that runs what was fetched and may break off in these outputs, where this holds of one that failed
 abbrev pub EndsRunning : (Owed : Accepted → List ℕ → Ending → Type 0) (MayBreak : Accepted → List ℕ → Type 0) (InOrder : Type 0) → List Operator → Options → (instants : Option ℕ) → ReadStop →

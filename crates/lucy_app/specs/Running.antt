@@ -25,6 +25,10 @@ IsRunnable ops o instants text a = IsAccepted ops o text a × (LacksInstants a i
 abbrev pub OfProgram : (Holds : Accepted → Type 0) → List Operator → Options → (fetched : List (Result (List ℕ) ShelfError)) → Type 0
 OfProgram Holds ops o fetched = HasText fetched (λ text. (a : Accepted) × IsAccepted ops o text a × Holds a)
 
+-- of the program that was fetched, which can be run, this holds
+abbrev pub OfRunnable : (Holds : Accepted → Type 0) → List Operator → Options → (instants : Option ℕ) → (fetched : List (Result (List ℕ) ShelfError)) → Type 0
+OfRunnable Holds ops o instants fetched = HasText fetched (λ text. (a : Accepted) × IsRunnable ops o instants text a × Holds a)
+
 -- of a program that is run: that its instants are missing, where nothing is read, or the output and the ending that the run owes
 abbrev pub OwesEnded : (Owed : List ℕ → Ending → Type 0) → (instants : Option ℕ) → ReadStop → Accepted → Answer → Type 0
 OwesEnded Owed instants stop a answer =

@@ -54,7 +54,7 @@ Fetches (w ∷ wanted) before after (fetched ∷ more) = (between : SeenShelf) �
 
 -- this is what a command has met; one that reads nothing doesn't call the source, which is as it was where the command need not read it, and
 -- else no byte more was asked for
-pub record HasMet (command : Command) (before after : World) (given : Given) : Type 0 where
+pub record HasMetWorld (command : Command) (before after : World) (given : Given) : Type 0 where
   pub shelf : Fetches (files_of (Some command)) before.shelf after.shelf given.fetched
   pub source : MatchOption (most_input (Some command)) ((given.taken ≡ []) × (given.stop ≡ Unread) × (after.source ≡ before.source))
       (λ most. Read most before.source after.source given.taken given.stop)

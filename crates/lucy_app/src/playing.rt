@@ -1,5 +1,5 @@
 // The command `run` in one piece, by an engine that is handed in.
-ghost use Rattle.std.specs.Prelude.{◌≡◌, ◌≢◌, ◌⊎◌, ◌≤◌, ◌∷◌, ℕ, List, [], None, map, string_bytes, IfSome};
+ghost use Rattle.std.specs.Prelude.{◌≡◌, ◌⊎◌, ◌≤◌, ◌∷◌, ℕ, List, [], None, map, string_bytes, IfSome};
 ghost use Rattle.std.specs.Option.{option_map};
 ghost use Rattle.lucy_word.specs.Limits.{limit_number};
 ghost use Rattle.lucy_word.specs.declared.limit.Limit.TheVariants as limit;
@@ -7,13 +7,13 @@ ghost use Rattle.lucy_host.specs.Host.{lent};
 ghost use Rattle.lucy_host.specs.Operators.{kinds_of};
 ghost use Rattle.lucy_text.specs.Sources.{ReadStop, Read};
 ghost use Rattle.lucy_run.specs.Owes.{OwesRun, LinesAllow};
-ghost use Rattle.lucy_run.specs.Engines.{AsksOnce, AsksFor, FailsInPiece};
+ghost use Rattle.lucy_run.specs.Engines.{FailsInPiece};
 ghost use Rattle.lucy_command.specs.Commands.{command_of};
 ghost use Rattle.lucy_command.specs.Named.{named, run_named, IsWithin};
 ghost use Rattle.lucy_app.specs.Commands.{inferring_options, TakesInput};
 ghost use Rattle.lucy_app.specs.World.{world};
 ghost use Rattle.lucy_app.specs.Outcomes.{bytes_of, EndsRunning, OfProgram};
-ghost use Rattle.lucy_app.specs.Engines.{whole_run, EndsPlayed, EndsPlaying};
+ghost use Rattle.lucy_app.specs.Engines.{whole_run, AsksEngineFor, EndsPlayed, EndsPlaying};
 
 use crate::accepting::accepted;
 use crate::fetching::fetch;
@@ -57,12 +57,12 @@ fn play<I: Source, O: Sink, E: Sink, N: Engine<F>, F: Fn(u32, i64, i64) -> i64 +
     ensures ends { (taken : List ℕ) × (stop : ReadStop) × Read (limit_number limit.Input) (I.seen input.old) (I.seen input.new) taken stop
         × ((I.seen input.new ≡ I.seen input.old)
         ⊎ TakesInput (lent host.now) (inferring_options words.entry.scale words.entry.lead) (bytes_of fetched ∷ []) taken)
-        × AsksOnce (λ one. OfProgram (λ a. AsksFor a words.entry.instants words.entry.workers taken stop one) (lent host.now)
-        (inferring_options words.entry.scale words.entry.lead) (bytes_of fetched ∷ [])) (result ≢ 0) (N.asked engine.old) (N.asked engine.new)
+        × AsksEngineFor (lent host.now) (inferring_options words.entry.scale words.entry.lead) words.entry.instants words.entry.workers
+        taken stop (bytes_of fetched ∷ []) (N.asked engine.old) (N.asked engine.new) result
         × EndsRunning (λ a. OwesRun (kinds_of (lent host.now)) a words.entry.instants taken stop)
         (λ a. LinesAllow (kinds_of (lent host.now)) a words.entry.instants taken stop)
-        (OfProgram (λ a. FailsInPiece a stop (N.asked engine.old) (N.asked engine.new) (O.seen out.old) (O.seen out.new))
-        (lent host.now) (inferring_options words.entry.scale words.entry.lead) (bytes_of fetched ∷ []))
+        (OfProgram (λ a. FailsInPiece a words.entry.instants words.entry.workers taken stop (N.asked engine.old) (N.asked engine.new)
+        (O.seen out.old) (O.seen out.new)) (lent host.now) (inferring_options words.entry.scale words.entry.lead) (bytes_of fetched ∷ []))
         (lent host.now) (inferring_options words.entry.scale words.entry.lead) words.entry.instants stop (bytes_of fetched ∷ [])
         (O.seen out.old) (O.seen out.new) (E.seen err.old) (E.seen err.new) result }
     ensures quiet { result ≡ 0 → err.new ≡ err.old }

@@ -23,7 +23,7 @@ use Rattle.lucy_worker.proofs.EndLaws.{one_giver, one_taker}
 use Rattle.lucy_worker.proofs.WithinLaws.{get_beside, get_set, get_left, get_right}
 use Rattle.lucy_net_rows.specs.declared.parity.End.{End}
 use Rattle.lucy_net_rows.specs.declared.parity.Link.{Link}
-use Rattle.lucy_net_rows.specs.ByHand.{side, IsLinked, AreLinked, AreOneEnd, HaveOwnEnds, AreApart, HasMet, IsBegun, HasOneMoreGiver, HasOneMoreTaker, KeepEnds, HasGainedGiver, HasGainedTaker, BothKeepEnds, BothBegun, HaveGainedGiver, HaveGainedTaker, HaveJoined, AreJoined}
+use Rattle.lucy_net_rows.specs.ByHand.{side, IsLinked, AreLinked, AreOneEnd, HaveOwnEnds, AreApart, HasMetByHand, IsBegun, HasOneMoreGiver, HasOneMoreTaker, KeepEnds, HasGainedGiver, HasGainedTaker, BothKeepEnds, BothBegun, HaveGainedGiver, HaveGainedTaker, HaveJoined, AreJoined}
 
 -- an end at no place of its own
 abbrev nowhere_end : End
@@ -270,7 +270,7 @@ pub ran_linked : (kinds : List HostKind) (even odd even' odd' : List Part) (link
 ran_linked kinds even odd even' odd' links runs rings a b are = λ k link e. kept_linked even odd even' odd' link rings (ran_both kinds even odd even' odd' runs a b) (are k link e)
 
 -- and so does a meeting
-pub met_linked : (even odd even' odd' : List Part) (links : List Link) (m : ℕ) (link : Link) → KeptEndsAreOfOneRing → AreApart links → slice_get links m ≡ Some link → HasMet even odd link even' odd' → AreLinked even odd links → AreLinked even' odd' links
+pub met_linked : (even odd even' odd' : List Part) (links : List Link) (m : ℕ) (link : Link) → KeptEndsAreOfOneRing → AreApart links → slice_get links m ≡ Some link → HasMetByHand even odd link even' odd' → AreLinked even odd links → AreLinked even' odd' links
 met_linked even odd even' odd' links m link rings apart at met are = λ k l e. elim (cases_eq k m) [
   | inl same ↦
       let it : Some l ≡ Some link = sym e ∙ ap (slice_get links) same ∙ at in
@@ -346,7 +346,7 @@ side_taker : (even odd even' odd' : List Part) (is_odd : Bool) (place : EndPlace
 side_taker even odd even' odd' false place e o = e refl
 side_taker even odd even' odd' true place e o = o refl
 
-met_by : (even odd even' odd' : List Part) (link : Link) → IsLinked even' odd' link → OthersStay (GivesHere link false) (TakesHere link false) even even' → OthersStay (GivesHere link true) (TakesHere link true) odd odd' → HasMet even odd link even' odd'
+met_by : (even odd even' odd' : List Part) (link : Link) → IsLinked even' odd' link → OthersStay (GivesHere link false) (TakesHere link false) even even' → OthersStay (GivesHere link true) (TakesHere link true) odd odd' → HasMetByHand even odd link even' odd'
 met_by even odd even' odd' link linked e o = record {
   linked = linked;
   givers = λ end ne. side_giver even odd even' odd' end.odd end.place
@@ -357,27 +357,27 @@ met_by even odd even' odd' link linked e o = record {
       (λ f t. (let u = o.takers end.place (λ is. ne (f ∙ sym is.0, is.1)) t in (u.0, ap (λ (x : TakerView). x.ring) u.1)));
 }
 
-pub met_even_even : (even odd even' : List Part) (link : Link) → OwnMeetingsKeepEnds → link.giver.odd ≡ false → link.taker.odd ≡ false → MetWithin even link.giver.place link.taker.place even' → HasMet even odd link even' odd
+pub met_even_even : (even odd even' : List Part) (link : Link) → OwnMeetingsKeepEnds → link.giver.odd ≡ false → link.taker.odd ≡ false → MetWithin even link.giver.place link.taker.place even' → HasMetByHand even odd link even' odd
 met_even_even even odd even' link own e f met =
     let kept = own even even' link.giver.place link.taker.place met in
     met_by even odd even' odd link (ends_from even' odd link false false e f kept.0)
     (wider (IsPlace link.giver.place) (IsPlace link.taker.place) (GivesHere link false) (TakesHere link false) even even' kept.1 (λ p is. (e, is)) (λ p is. (f, is)))
     (nobody link true odd)
 
-pub met_odd_odd : (even odd odd' : List Part) (link : Link) → OwnMeetingsKeepEnds → link.giver.odd ≡ true → link.taker.odd ≡ true → MetWithin odd link.giver.place link.taker.place odd' → HasMet even odd link even odd'
+pub met_odd_odd : (even odd odd' : List Part) (link : Link) → OwnMeetingsKeepEnds → link.giver.odd ≡ true → link.taker.odd ≡ true → MetWithin odd link.giver.place link.taker.place odd' → HasMetByHand even odd link even odd'
 met_odd_odd even odd odd' link own e f met =
     let kept = own odd odd' link.giver.place link.taker.place met in
     met_by even odd even odd' link (ends_from even odd' link true true e f kept.0) (nobody link false even)
     (wider (IsPlace link.giver.place) (IsPlace link.taker.place) (GivesHere link true) (TakesHere link true) odd odd' kept.1 (λ p is. (e, is)) (λ p is. (f, is)))
 
-pub met_even_odd : (even odd even' odd' : List Part) (link : Link) → MeetingsKeepEnds → link.giver.odd ≡ false → link.taker.odd ≡ true → MetBetween even link.giver.place odd link.taker.place even' odd' → HasMet even odd link even' odd'
+pub met_even_odd : (even odd even' odd' : List Part) (link : Link) → MeetingsKeepEnds → link.giver.odd ≡ false → link.taker.odd ≡ true → MetBetween even link.giver.place odd link.taker.place even' odd' → HasMetByHand even odd link even' odd'
 met_even_odd even odd even' odd' link between e f met =
     let kept = between even odd even' odd' link.giver.place link.taker.place met in
     met_by even odd even' odd' link (ends_from even' odd' link false true e f kept.0)
     (wider (IsPlace link.giver.place) (λ (p : EndPlace). ⊥) (GivesHere link false) (TakesHere link false) even even' kept.1 (λ p is. (e, is)) (λ p none. absurd none))
     (wider (λ (p : EndPlace). ⊥) (IsPlace link.taker.place) (GivesHere link true) (TakesHere link true) odd odd' kept.2 (λ p none. absurd none) (λ p is. (f, is)))
 
-pub met_odd_even : (even odd even' odd' : List Part) (link : Link) → MeetingsKeepEnds → link.giver.odd ≡ true → link.taker.odd ≡ false → MetBetween odd link.giver.place even link.taker.place odd' even' → HasMet even odd link even' odd'
+pub met_odd_even : (even odd even' odd' : List Part) (link : Link) → MeetingsKeepEnds → link.giver.odd ≡ true → link.taker.odd ≡ false → MetBetween odd link.giver.place even link.taker.place odd' even' → HasMetByHand even odd link even' odd'
 met_odd_even even odd even' odd' link between e f met =
     let kept = between odd even odd' even' link.giver.place link.taker.place met in
     met_by even odd even' odd' link (ends_from even' odd' link true false e f kept.0)

@@ -35,7 +35,7 @@ abbrev pub AreApart : List Link → Type 0
 AreApart links = (j k : ℕ) (a b : Link) → slice_get links j ≡ Some a → slice_get links k ≡ Some b → (j ≡ k → ⊥) → HaveOwnEnds a b
 
 -- the two ends of a ring met, and all other ends are kept
-pub record HasMet (even odd : List Part) (link : Link) (even' odd' : List Part) : Type 0 where
+pub record HasMetByHand (even odd : List Part) (link : Link) (even' odd' : List Part) : Type 0 where
   pub linked : IsLinked even' odd' link
   pub givers : (end : End) → (AreOneEnd end link.giver → ⊥) → KeepsGiver (side even odd end.odd) (side even' odd' end.odd) end.place
   pub takers : (end : End) → (AreOneEnd end link.taker → ⊥) → KeepsTaker (side even odd end.odd) (side even' odd' end.odd) end.place

@@ -4,7 +4,7 @@ ghost use Rattle.lucy_host.specs.Host.{Serves, lent};
 ghost use Rattle.lucy_net.specs.Proper.{IsProper};
 ghost use Rattle.lucy_worker.specs.Turns.{IsServed};
 ghost use Rattle.lucy_worker.specs.News.{IsNew, ends_by, most_ends};
-ghost use Rattle.lucy_net_rows.specs.ByHand.{IsLinked, AreLinked, AreApart, AreJoined, HasMet};
+ghost use Rattle.lucy_net_rows.specs.ByHand.{IsLinked, AreLinked, AreApart, AreJoined, HasMetByHand};
 
 use crate::complete::are_complete;
 use crate::page::Page;
@@ -185,7 +185,7 @@ fn meet_all(even: &mut Worker, odd: &mut Worker, links: &[Link])
 // Lets the two ends of a ring meet.
 fn meet_at(even: &mut Worker, odd: &mut Worker, link: Link)
     requires { IsLinked even.old.parts odd.old.parts link }
-    ensures { HasMet even.old.parts odd.old.parts link even.new.parts odd.new.parts }
+    ensures { HasMetByHand even.old.parts odd.old.parts link even.new.parts odd.new.parts }
 {
     ends_are_kept();
     let (giver, taker) = (link.giver.place, link.taker.place);

@@ -1,9 +1,9 @@
-// Runs of free threads, and behind them calls with an engine that always wants memory. Each is run over a shelf, a source and sinks in
-// memory, and what it leaves is printed as that of a row, but for what is left in its source.
+// Runs of free threads, and behind them calls with an engine that wants memory. Each is run over a shelf, a source and sinks in
+// memory, and what it leaves is printed as that of a row, but for what is left in its source; and then what that engine was asked for.
 ghost use Rattle.lucy_host.specs.Host.{Serves};
 
 use crate::print_lines;
-use crate::wanting::Wanting;
+use crate::wanting::{Request, Wanting};
 use lucy_app::run_with;
 use lucy_freely::lucy_free;
 use lucy_host::Host;
@@ -100,13 +100,24 @@ fn run_freely<F: Fn(u32, i64, i64) -> i64 + Sync>(
     print_row(rt, row, status, &lent)
 }
 
-// A call with an engine that always wants memory.
+// Prints what an engine was asked for.
+fn print_request(rt: &impl Print, request: Option<Request>) -> io::Result<()> {
+    match request {
+        Some(Request { instants, workers }) => {
+            println!(rt; "asked to play {instants} instants by {workers} workers")
+        }
+        None => println!(rt; "asked for nothing"),
+    }
+}
+
+// A call with an engine that wants memory.
 fn run_wanting<F: Fn(u32, i64, i64) -> i64 + Sync>(
     rt: &(impl Print + AllocGlobal),
     host: &Host<F>,
     row: Row<'_>,
 ) -> io::Result<()> {
     let mut lent = lend(rt.alloc(), row)?;
+    let mut engine = Wanting { request: None };
     let status = run_with(
         rt.alloc(),
         &lent.words,
@@ -114,10 +125,11 @@ fn run_wanting<F: Fn(u32, i64, i64) -> i64 + Sync>(
         &mut lent.input,
         &mut lent.out,
         &mut lent.err,
-        &mut Wanting,
+        &mut engine,
         host,
     );
-    print_row(rt, row, status, &lent)
+    print_row(rt, row, status, &lent)?;
+    print_request(rt, engine.request)
 }
 
 // Runs each program by so many workers.

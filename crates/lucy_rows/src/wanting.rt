@@ -1,5 +1,6 @@
-// An engine that always wants memory.
-ghost use Rattle.std.specs.Prelude.{None};
+// An engine that is asked, tells what for, and then wants memory.
+ghost use Rattle.std.specs.Prelude.{◌≡◌, [], ◌∷◌, Some, None};
+ghost use Rattle.std.specs.Option.{option_map_or};
 
 use lucy_app::Engine;
 use lucy_host::{Host, Inputs};
@@ -7,13 +8,23 @@ use lucy_program::Accepted;
 use lucy_word::OutOfMemory;
 use std::alloc::Global;
 
+/// What an engine is asked for: to play up to an instant, by so many workers.
 #[derive(Clone, Copy)]
-pub(crate) struct Wanting;
+pub(crate) struct Request {
+    pub instants: u64,
+    pub workers: u32,
+}
+
+/// It plays once, and keeps what it was asked for then.
+#[derive(Clone, Copy)]
+pub(crate) struct Wanting {
+    pub request: Option<Request>,
+}
 
 impl<F> Engine<F> for Wanting {
-    ghost plays = { λ _ _. Unit {0} };
+    ghost plays = { λ engine _. engine.request ≡ None };
 
-    ghost asked = { λ _. None };
+    ghost asked = { λ engine. Some (option_map_or (λ one. record { instants = one.instants; workers = one.workers } ∷ []) engine.request []) };
 
     fn play(
         &mut self,
@@ -21,9 +32,10 @@ impl<F> Engine<F> for Wanting {
         _accepted: &Accepted,
         _host: &Host<F>,
         _inputs: Inputs,
-        _instants: u64,
-        _workers: u32,
+        instants: u64,
+        workers: u32,
     ) -> Result<Inputs, OutOfMemory> {
+        self.request = Some(Request { instants, workers });
         Err(OutOfMemory)
     }
 }

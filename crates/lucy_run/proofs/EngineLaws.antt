@@ -17,19 +17,25 @@ use Rattle.lucy_run.specs.declared.ending.Ending.TheVariants as ending
 use Rattle.lucy_run.specs.declared.playing.Played.{Played}
 use Rattle.lucy_run.specs.Feeds.{Feeds, LinesFeed, IsMainFeed}
 use Rattle.lucy_run.specs.Owes.{most_instants, input_words, lines_to, heading, OwesRun}
-use Rattle.lucy_run.specs.Engines.{Asked, AsksOnce, AsksFor, HasBroken, EndsRunBy}
+use Rattle.lucy_run.specs.Engines.{PlayRequest, AsksOnce, AsksUnless, AsksToRun, HasBroken, EndsRunBy}
 use Rattle.lucy_run.specs.Steps.{EndsWhole, HasPlayed, AsksToPlay, LeavesWritten, LeavesUnwritten}
 use Rattle.lucy_run.proofs.EndsLaws.{allowed_not_yet, take_front, ends_whole}
 use Rattle.lucy_run.proofs.FedLaws.{read_nothing, lines_feed, some_lines}
 use Rattle.lucy_run.proofs.HorizonLaws.{some_horizon}
 
 -- what an engine was asked for once is such, or it may not have been asked
-pub asks_more : (A B : Asked → Type 0) (P Q : Type 0) → ((one : Asked) → A one → B one) → (P → Q) → (asked asked' : Option (List Asked)) →
-    AsksOnce A P asked asked' → AsksOnce B Q asked asked'
+pub asks_more : (A B : PlayRequest → Type 0) (P Q : Type 0) → ((one : PlayRequest) → A one → B one) → (P → Q) →
+    (asked asked' : Option (List PlayRequest)) → AsksUnless P A asked asked' → AsksUnless Q B asked asked'
 asks_more A B P Q more may asked asked' (inl (one, is, e)) = inl (one, more one is, e)
 asks_more A B P Q more may asked asked' (inr (p, e)) = inr (may p, e)
 
-module _ (kinds : List HostKind) (a : Accepted) (given : Option ℕ) (workers : ℕ) (asked asked' : Option (List Asked)) where
+-- it was asked once where it can't be that it wasn't asked
+must_ask : (A : PlayRequest → Type 0) (P : Type 0) → (P → ⊥) → (asked asked' : Option (List PlayRequest)) → AsksUnless P A asked asked' →
+    AsksOnce A asked asked'
+must_ask A P must asked asked' (inl once) = once
+must_ask A P must asked asked' (inr (p, e)) = absurd (must p)
+
+module _ (kinds : List HostKind) (a : Accepted) (given : Option ℕ) (workers : ℕ) (asked asked' : Option (List PlayRequest)) where
   -- how a call ends where these bytes were taken and reading stopped so
   abbrev pub EngineEnds : (taken : List ℕ) → ReadStop → (was now : SeenSink) → Ending → Type 0
   EngineEnds taken stop was now end = EndsRunBy kinds a given workers taken stop asked asked' was now end
@@ -66,7 +72,7 @@ module _ (kinds : List HostKind) (a : Accepted) (given : Option ℕ) (workers : 
 
   -- memory ran out behind the heading, where the whole lines feed main so
   heading_alone : (taken : List ℕ) (stop : ReadStop) (lists : List (List ℤ)) → LinesFeed a.inputs.items taken stop lists → (was now : SeenSink) →
-      Writes was now (heading a) → AsksOnce (AsksFor a given workers taken stop) (HasBroken ending.OutOfMemory) asked asked' →
+      Writes was now (heading a) → AsksUnless (HasBroken ending.OutOfMemory) (AsksToRun a given workers taken stop) asked asked' →
       EngineEnds taken stop was now ending.OutOfMemory
   heading_alone taken stop lists fed was now head asks =
       let (horizon, is) = some_horizon (input_words a) lists (most_instants given) in
@@ -88,7 +94,7 @@ module _ (kinds : List HostKind) (a : Accepted) (given : Option ℕ) (workers : 
   module _ (before after : SeenSource) (taken : List ℕ) (stop : ReadStop) (read : Read most_bytes before after taken stop)
       (bytes : IsAsked a.inputs.items taken) (answer : Result Feed OutOfMemory) (feed : Feed)
       (is : answer ≡ Ok feed) (fed_so : IsMainFeed a.inputs.items taken stop answer) (was between : SeenSink) (head : Writes was between (heading a))
-      (MayNot : Type 0) (asks : AsksOnce (AsksToPlay a given feed.items workers) MayNot asked asked') where
+      (MayNot : Type 0) (asks : AsksUnless MayNot (AsksToPlay a given feed.items workers) asked asked') where
     feeds : Feeds a.inputs.items taken stop feed.items feed.stop
     feeds = subst (IsMainFeed a.inputs.items taken stop) is fed_so
 
@@ -97,14 +103,14 @@ module _ (kinds : List HostKind) (a : Accepted) (given : Option ℕ) (workers : 
     by_lines = lines_feed a.inputs.items taken stop feed.items feed.stop feeds
 
     -- the engine was asked to play that
-    asks_so : (end : Ending) → (MayNot → HasBroken end) → AsksOnce (AsksFor a given workers taken stop) (HasBroken end) asked asked'
-    asks_so end may = asks_more (AsksToPlay a given feed.items workers) (AsksFor a given workers taken stop) MayNot (HasBroken end)
+    asks_so : (Broken : Type 0) → (MayNot → Broken) → AsksUnless Broken (AsksToRun a given workers taken stop) asked asked'
+    asks_so Broken may = asks_more (AsksToPlay a given feed.items workers) (AsksToRun a given workers taken stop) MayNot Broken
         (λ one so. record { lists = feed.items; fault = feed.stop; fed = record { feeds = feeds; horizon_is = so.0 }; workers_are = so.1 })
         may asked asked' asks
 
     -- and then memory ran out
     pub engine_unplayed : EngineGives before after was between ending.OutOfMemory
-    engine_unplayed = (taken, stop, read, bytes, heading_alone taken stop feed.items by_lines was between head (asks_so ending.OutOfMemory (λ may. inr refl)))
+    engine_unplayed = (taken, stop, read, bytes, heading_alone taken stop feed.items by_lines was between head (asks_so (HasBroken ending.OutOfMemory) (λ may. inr refl)))
 
     -- the program was played
     module _ (once : MayNot → ⊥) (played : Played) (has : HasPlayed kinds a given feed.items feed.stop played) where
@@ -114,16 +120,16 @@ module _ (kinds : List HostKind) (a : Accepted) (given : Option ℕ) (workers : 
       owes : OwesRun kinds a given taken stop output played.ending
       owes = (feed.items, feed.stop, played.horizon, record { feeds = feeds; horizon_is = has.horizon_is }, refl, has.ends)
 
-      asks_once : (end : Ending) → AsksOnce (AsksFor a given workers taken stop) (HasBroken end) asked asked'
-      asks_once end = asks_so end (λ may. absurd (once may))
+      asks_once : AsksOnce (AsksToRun a given workers taken stop) asked asked'
+      asks_once = must_ask (AsksToRun a given workers taken stop) MayNot once asked asked' (asks_so MayNot (λ may. may))
 
       whole : (end : Ending) (now : SeenSink) → EndsWhole end → OwesRun kinds a given taken stop output end → Writes was now output →
           EngineEnds taken stop was now end
       whole ending.WriteFault now all owed lines = absurd all
       whole ending.OutOfMemory now all owed lines = absurd all
-      whole ending.Done now all owed lines = record { output = (output, owed, lines); in_order = λ fault. cc; asks = asks_once ending.Done }
-      whole (ending.Input f) now all owed lines = record { output = (output, owed, lines); in_order = λ fault. cc; asks = asks_once (ending.Input f) }
-      whole (ending.Limit l) now all owed lines = record { output = (output, owed, lines); in_order = λ fault. cc; asks = asks_once (ending.Limit l) }
+      whole ending.Done now all owed lines = record { output = (output, owed, lines); in_order = λ fault. cc; asks = inl asks_once }
+      whole (ending.Input f) now all owed lines = record { output = (output, owed, lines); in_order = λ fault. cc; asks = inl asks_once }
+      whole (ending.Limit l) now all owed lines = record { output = (output, owed, lines); in_order = λ fault. cc; asks = inl asks_once }
 
       -- a write of the lines failed
       broken : (lines : List ℕ) → lines ≡ lines_to kinds a feed.items played.horizon → (now : SeenSink) → Fails between now lines →
@@ -134,8 +140,8 @@ module _ (kinds : List HostKind) (a : Accepted) (given : Option ℕ) (workers : 
           (feed.items, played.horizon, by_lines, has.horizon_is, refl),
           fails_behind was between now (heading a) (lines_to kinds a feed.items played.horizon) head (subst (Fails between now) are fails),
         );
-        in_order = λ fault. inr (between, lines, head, fails);
-        asks = asks_once ending.WriteFault;
+        in_order = λ fault. inr ((between, lines, head, fails), asks_once);
+        asks = inl asks_once;
       }
 
       lines_are : (outputs : List OutputSpec) → outputs ≡ a.outputs.items →
@@ -158,7 +164,7 @@ module _ (kinds : List HostKind) (a : Accepted) (given : Option ℕ) (workers : 
       ends_so lines are now result (inr (inr left)) =
           let P : Ending → SeenSink → Type 0 = λ r s. EngineEnds taken stop was s r in
           subst (λ r. P r now) (sym left.0) (subst (P ending.OutOfMemory) (sym left.1)
-          (heading_alone taken stop feed.items by_lines was between head (asks_once ending.OutOfMemory)))
+          (heading_alone taken stop feed.items by_lines was between head (inl asks_once)))
 
       pub engine_played : (outputs : List OutputSpec) → outputs ≡ a.outputs.items → (now : SeenSink) (result : Ending) →
           LeavesWritten (output_text outputs played.streams played.horizon) played.ending between now result →

@@ -37,31 +37,39 @@ IsPlayedTo operators a inputs instants answer = IfOk answer (λ lists. lists ≡
     a.clocks.items instants)
 
 -- what an engine is asked for once: to play up to an instant, by so many workers
-pub record Asked : Type 0 where
+pub record PlayRequest : Type 0 where
   pub instants : ℕ
   pub workers : ℕ
 
 -- what it was asked for so far and then this, where it tells that
-abbrev pub asked_more : Asked → Option (List Asked) → Option (List Asked)
+abbrev pub asked_more : PlayRequest → Option (List PlayRequest) → Option (List PlayRequest)
 asked_more one before = option_map (λ all. all ++ one ∷ []) before
 
--- it was asked once, for something of which this holds; or for nothing, which may be where that holds
-abbrev pub AsksOnce : (Asks : Asked → Type 0) (MayNot : Type 0) → (before after : Option (List Asked)) → Type 0
-AsksOnce Asks MayNot before after = ((one : Asked) × Asks one × (after ≡ asked_more one before)) ⊎ (MayNot × (after ≡ before))
+-- it was asked once, for something of which this holds
+abbrev pub AsksOnce : (Asks : PlayRequest → Type 0) → (before after : Option (List PlayRequest)) → Type 0
+AsksOnce Asks before after = (one : PlayRequest) × Asks one × (after ≡ asked_more one before)
+
+-- so it was asked; or for nothing, which may be where that holds
+abbrev pub AsksUnless : (MayNot : Type 0) (Asks : PlayRequest → Type 0) → (before after : Option (List PlayRequest)) → Type 0
+AsksUnless MayNot Asks before after = AsksOnce Asks before after ⊎ (MayNot × (after ≡ before))
 
 -- it is asked to play what main is fed up to its horizon, by so many workers
-pub record AsksFor (a : Accepted) (given : Option ℕ) (workers : ℕ) (taken : List ℕ) (stop : ReadStop) (one : Asked) : Type 0 where
+pub record AsksToRun (a : Accepted) (given : Option ℕ) (workers : ℕ) (taken : List ℕ) (stop : ReadStop) (one : PlayRequest) : Type 0 where
   pub lists : List (List ℤ)
   pub fault : Option TextFault
   pub fed : IsMainFed a given taken stop lists fault one.instants
   pub workers_are : one.workers ≡ workers
 
--- Where a write failed nothing more was done: where it was a write of the heading, nothing was read and the engine was asked for nothing;
--- else the heading was written, and a write behind it failed.
-abbrev pub FailsInPiece : Accepted → ReadStop → (asked asked' : Option (List Asked)) → (was now : SeenSink) → Type 0
-FailsInPiece a stop asked asked' was now =
-    (FailsUnread a stop was now × (asked' ≡ asked))
-    ⊎ ((between : SeenSink) × (rest : List ℕ) × Writes was between (heading a) × Fails between now rest)
+-- the heading was written, and then a write behind it failed
+abbrev pub FailsBehindHeading : Accepted → (was now : SeenSink) → Type 0
+FailsBehindHeading a was now = (between : SeenSink) × (rest : List ℕ) × Writes was between (heading a) × Fails between now rest
+
+-- Where a write failed nothing more was done. Where it was a write of the heading, nothing was read and the engine was asked for nothing;
+-- else the heading was written, and the engine was asked once, to play what main is fed.
+abbrev pub FailsInPiece : Accepted → (given : Option ℕ) (workers : ℕ) (taken : List ℕ) → ReadStop → (asked asked' : Option (List PlayRequest)) →
+    (was now : SeenSink) → Type 0
+FailsInPiece a given workers taken stop asked asked' was now =
+    (FailsUnread a stop was now × (asked' ≡ asked)) ⊎ (FailsBehindHeading a was now × AsksOnce (AsksToRun a given workers taken stop) asked asked')
 
 -- a write failed, or memory ran out
 abbrev pub HasBroken : Ending → Type 0
@@ -69,7 +77,7 @@ HasBroken end = (end ≡ ending.WriteFault) ⊎ (end ≡ ending.OutOfMemory)
 
 -- how `run_by` ends, by the bytes taken, how reading stopped, and what its engine was asked for before and after
 pub record EndsRunBy (kinds : List HostKind) (a : Accepted) (given : Option ℕ) (workers : ℕ) (taken : List ℕ) (stop : ReadStop)
-    (asked asked' : Option (List Asked)) (before after : SeenSink) (end : Ending) : Type 0 where
+    (asked asked' : Option (List PlayRequest)) (before after : SeenSink) (end : Ending) : Type 0 where
   pub output : EndsWith (OwesRun kinds a given taken stop) (LinesAllow kinds a given taken stop) before after end
-  pub in_order : end ≡ ending.WriteFault → FailsInPiece a stop asked asked' before after
-  pub asks : AsksOnce (AsksFor a given workers taken stop) (HasBroken end) asked asked'
+  pub in_order : end ≡ ending.WriteFault → FailsInPiece a given workers taken stop asked asked' before after
+  pub asks : AsksUnless (HasBroken end) (AsksToRun a given workers taken stop) asked asked'

@@ -27,7 +27,7 @@ use Rattle.lucy_run.specs.declared.ending.Ending.{Ending}
 use Rattle.lucy_run.specs.declared.ending.Ending.TheVariants as ending
 use Rattle.lucy_run.specs.declared.playing.Played.{Played}
 use Rattle.lucy_run.specs.Owes.{input_words, EndsFor, IsHorizonOf}
-use Rattle.lucy_run.specs.Engines.{Asked}
+use Rattle.lucy_run.specs.Engines.{PlayRequest}
 
 -- the output that is owed with this ending was written; or a write of an output that is owed failed; or memory ran out before that
 abbrev pub LeavesOwed : (Owes : List ℕ → Ending → Type 0) → (before after : SeenSink) → (result : Ending) → Type 0
@@ -60,7 +60,7 @@ pub record HasPlayed (kinds : List HostKind) (a : Accepted) (given : Option ℕ)
   pub ends : EndsFor (input_words a) given lists fault played.ending
 
 -- an engine is asked to play these items up to the horizon that they allow, by so many workers
-abbrev pub AsksToPlay : Accepted → (given : Option ℕ) → (lists : List (List ℤ)) → (workers : ℕ) → Asked → Type 0
+abbrev pub AsksToPlay : Accepted → (given : Option ℕ) → (lists : List (List ℤ)) → (workers : ℕ) → PlayRequest → Type 0
 AsksToPlay a given lists workers one = IsHorizonOf (input_words a) given lists one.instants × (one.workers ≡ workers)
 
 -- these lines were written, and the run ends so; or a write of them failed; or memory ran out before that

@@ -2,7 +2,7 @@
 ghost use Rattle.std.specs.Prelude.{◌≡◌, ℕ, List, Option, None};
 ghost use Rattle.lucy_host.specs.Host.{lent};
 ghost use Rattle.lucy_host.specs.declared.host.Host.{Host};
-ghost use Rattle.lucy_run.specs.Engines.{Asked, CanBePlayed, IsPlayedTo, asked_more};
+ghost use Rattle.lucy_run.specs.Engines.{PlayRequest, CanBePlayed, IsPlayedTo, asked_more};
 
 use lucy_host::{Host, Inputs};
 use lucy_program::Accepted;
@@ -15,7 +15,7 @@ pub trait Engine<F> {
     ghost plays: { Self → Host F → Type 0 };
 
     /// What it was asked for so far, in turn, where it tells that.
-    ghost asked: { Self → Option (List Asked) };
+    ghost asked: { Self → Option (List PlayRequest) };
 
     /// The streams of main's results up to a horizon of at most 1,048,576 instants, by 1 to 64 workers: a list for each result, in
     /// order (Kahn 1974). The program is one that is accepted for the operators of the host. There is an input for each parameter of

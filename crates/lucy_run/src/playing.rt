@@ -7,7 +7,7 @@ ghost use Rattle.lucy_kahn.specs.Turns.{params_in};
 ghost use Rattle.lucy_lines.specs.Outputs.{output_text};
 ghost use Rattle.lucy_run.specs.Paces.{AreInstants, AreWorkers};
 ghost use Rattle.lucy_run.specs.Calls.{WasAccepted, ReadsAndEnds};
-ghost use Rattle.lucy_run.specs.Engines.{AsksOnce, EndsRunBy};
+ghost use Rattle.lucy_run.specs.Engines.{AsksUnless, EndsRunBy};
 ghost use Rattle.lucy_run.specs.Steps.{HasPlayed, AsksToPlay, LeavesWritten};
 
 use crate::ending::Ending;
@@ -69,7 +69,7 @@ fn play_by<N: Engine<F>, F>(
     requires few { AreInstants given }
     requires workers { AreWorkers workers }
     ensures played { IfOk result (λ played. HasPlayed (kinds_of (lent host.now)) accepted.now given feed.items feed.stop played) }
-    ensures asks { AsksOnce (AsksToPlay accepted.now given feed.items workers) (OnOk result ⊥) (N.asked engine.old) (N.asked engine.new) }
+    ensures asks { AsksUnless (OnOk result ⊥) (AsksToPlay accepted.now given feed.items workers) (N.asked engine.old) (N.asked engine.new) }
 {
     accepted_programs_are_clocked();
     let Feed { items, stop } = feed;
@@ -153,7 +153,8 @@ fn play_accepted<N: Engine<F>, F, I: Source, O: Sink>(
 /// then the lines of its results are written. A main without inputs reads nothing. It returns if the engine does.
 ///
 /// After a failed write nothing more is written, and where it was a write of the report or of the line `run`, nothing was read and the
-/// engine was asked for nothing. It is asked at most once, for these workers and the horizon of what main is fed.
+/// engine was asked for nothing. Else it is asked once, for these workers and the horizon of what main is fed, unless memory runs out
+/// before that.
 pub fn run_by<N: Engine<F>, F, I: Source, O: Sink>(
     alloc: Global,
     accepted: Accepted,
