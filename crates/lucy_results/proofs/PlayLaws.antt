@@ -8,17 +8,23 @@ use Rattle.lucy_clock.specs.declared.node_clock.NodeClock.{NodeClock}
 use Rattle.lucy_host.specs.Operators.{kinds_of}
 use Rattle.lucy_kahn.specs.Spots.{main_of}
 use Rattle.lucy_kahn.specs.Turns.{params_in}
+use Rattle.lucy_net.specs.declared.net.Actor.{Actor}
 use Rattle.lucy_net.specs.declared.net.Net.{Net}
 use Rattle.lucy_net.specs.Proper.{IsSupplied}
 use Rattle.lucy_kahn.specs.Horizons.{Suffice}
 use Rattle.lucy_flat.specs.Flat.{IsFlat}
 use Rattle.lucy_core.specs.Seen.{Seen, IsOver, after_picks}
 use Rattle.lucy_runner.specs.Views.{RunnerView, first_runner, inputs_for}
+use Rattle.lucy_runner.specs.Homes.{crew_by}
 use Rattle.lucy_runner.specs.Blocks.{longer_inputs, grown_seen}
 use Rattle.lucy_results.specs.Streams.{param_words, main_streams, later_streams}
-use Rattle.lucy_results.specs.Playing.{PlayerView, played, IsPlayed, joined}
+use Rattle.lucy_results.specs.Playing.{PlayerView, homes_for, crew_for, played, IsPlayed, joined}
 use Rattle.lucy_results.proofs.LaterLaws.{joined_count, longer_same, later_first}
 use Rattle.lucy_results.proofs.NetLaws.{supplied}
+
+-- the homes of a net's actors give its crew
+pub crew_is : (net : Net) (workers : ℕ) (list : List Actor) (homes : List ℕ) → homes ≡ homes_for (length list) workers → list ≡ net.actors → crew_by workers homes ≡ crew_for net workers
+crew_is net workers list homes e f = ap (crew_by workers) (e ∙ ap (λ (xs : List Actor). homes_for (length xs) workers) f)
 
 module _ (nodes : List PlacedNode) (clocks : List NodeClock) where
   -- a runner of a new core that went to its end

@@ -13,7 +13,7 @@ use Rattle.lucy_results.specs.Playing.{PlayerView, crew_for, played}
 use Rattle.lucy_results.proofs.NetLaws.{fixed}
 use Rattle.lucy_results.proofs.InputLaws.{inputs_same}
 use Rattle.lucy_results.proofs.OutputLaws.{first_unbegun}
-use Rattle.lucy_results.proofs.PlayLaws.{told_whole}
+use Rattle.lucy_results.proofs.PlayLaws.{crew_is, told_whole}
 use Rattle.lucy_results.proofs.turning.run_net_by_turns.Goals as goal
 
 pub new-requires : goal.new-requires
@@ -44,7 +44,8 @@ turn_core-requires-clause-params g c =
 pub turn_core-requires-clause-turns : goal.turn_core-requires-clause-turns
 turn_core-requires-clause-turns g c = λ seats served held.
     let same : c.in_ok-core.core.operators ≡ c.args.ops.now = ap (λ (s : Seen). s.operators) c.in_ok-core.ensures in
-    let crew : crew_by c.args.workers c.deref.result.now ≡ crew_for c.args.net c.args.workers = ? in
+    let crew : crew_by c.args.workers c.deref.result.now ≡ crew_for c.args.net c.args.workers =
+    crew_is c.args.net c.args.workers c.list.result.now c.deref.result.now (c.deref.ensures.value ∙ c.in_ok-homes.ensures.home) c.list.ensures in
     let asked = c.requires.turns seats (subst (λ (xs : List Operator). AreServed (length xs) (crew_of seats.now)) same served) (held ∙ crew) in (
       asked.0,
       λ none after left.

@@ -1,4 +1,4 @@
-use Rattle.std.proofs.Common.{ℕ, suc, zero, ◌≡◌, ◌<◌, ◌%◌, ◌+◌, All, List, [], ◌∷◌, ◌++◌, map, length, ap, sym, refl, ◌∙◌, subst, rules, arith}
+use Rattle.std.proofs.Common.{ℕ, suc, zero, ◌≡◌, ◌<◌, ◌%◌, ◌+◌, All, List, [], ◌∷◌, ◌++◌, map, length, ap, sym, ◌∙◌, subst, rules, arith}
 use Rattle.std.specs.List.{range_with_len}
 use Rattle.std.proofs.lemmas.List.{map-append, length-map}
 use Rattle.std.proofs.lemmas.List.FromFn.{length-range_with_len}
@@ -6,7 +6,7 @@ use Rattle.lucy_results.specs.Playing.{homes_for}
 use Rattle.lucy_results.proofs.workers.homes_of.Goals as goal
 
 -- one number more
-range_more : (from n : ℕ) → range_with_len from (n + 1) ≡ range_with_len from n ++ (from + n) ∷ []
+range_more : (from n : ℕ) → range_with_len from (suc n) ≡ range_with_len from n ++ (from + n) ∷ []
 range_more from zero = ap (λ k. k ∷ []) (let same : from ≡ from + 0 = omega arith in same)
 range_more from (suc n) = ap (λ ks. from ∷ ks) (range_more (from + 1) n ∙ ap (λ k. range_with_len (from + 1) n ++ k ∷ []) (let same : from + 1 + n ≡ from + suc n = omega arith in same))
 
@@ -14,7 +14,10 @@ range_more from (suc n) = ap (λ ks. from ∷ ks) (range_more (from + 1) n ∙ a
 home_next : (homes : List ℕ) (workers n : ℕ) → homes ≡ homes_for n workers → homes ++ (n % workers) ∷ [] ≡ homes_for (n + 1) workers
 home_next homes workers n are =
     let home : ℕ → ℕ = λ (actor : ℕ). actor % workers in
-    ap (λ hs. hs ++ (n % workers) ∷ []) are ∙ sym (map-append home (range_with_len 0 n) (n ∷ [])) ∙ ap (map home) (sym (range_more 0 n))
+    let first : n ≡ 0 + n = omega arith in
+    let next : suc n ≡ n + 1 = omega arith in
+    ap (λ hs. hs ++ (n % workers) ∷ []) are ∙ sym (map-append home (range_with_len 0 n) (n ∷ []))
+    ∙ ap (λ k. map home (range_with_len 0 n ++ k ∷ [])) first ∙ ap (map home) (sym (range_more 0 n)) ∙ ap (λ k. map home (range_with_len 0 k)) next
 
 count : (actors workers : ℕ) → length (homes_for actors workers) ≡ actors
 count actors workers = length-map (range_with_len 0 actors) (λ (actor : ℕ). actor % workers) ∙ length-range_with_len 0 actors
@@ -34,4 +37,11 @@ loop-actor-preserved c = record {
 }
 
 pub returns : goal.returns
-returns c = ?
+returns c =
+    let all : c.loop-actor.actor ≡ c.args.actors = omega (arith, c.loop-actor-test.false) in
+    let are : c.loop-actor.homes.items ≡ homes_for c.args.actors c.args.workers = c.loop-actor.invariant.are ∙ ap (λ n. homes_for n c.args.workers) all in
+    record {
+      count = ap length are ∙ count c.args.actors c.args.workers;
+      home = are;
+      each = c.loop-actor.invariant.low;
+    }

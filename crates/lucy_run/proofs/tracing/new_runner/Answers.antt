@@ -1,9 +1,10 @@
-use Rattle.std.proofs.Common.{◌≡◌, ap, ◌∙◌}
+use Rattle.std.proofs.Common.{◌≡◌, List, length, ap, ◌∙◌}
 use Rattle.std.proofs.lemmas.Result.{IfOk-weaker}
+use Rattle.lucy_net.specs.declared.net.Actor.{Actor}
 use Rattle.lucy_core.specs.Seen.{Seen, first_seen, done_of}
 use Rattle.lucy_runner.specs.Views.{RunnerView, first_runner}
 use Rattle.lucy_runner.specs.Homes.{crew_by}
-use Rattle.lucy_results.specs.Playing.{crew_for}
+use Rattle.lucy_results.specs.Playing.{homes_for, crew_for}
 use Rattle.lucy_results.proofs.OutputLaws.{first_unbegun}
 use Rattle.lucy_run.proofs.tracing.new_runner.Goals as goal
 
@@ -23,4 +24,5 @@ pub returns-clause-crew : goal.returns-clause-crew
 returns-clause-crew c =
     IfOk-weaker c.new-2.result (λ (runner : RunnerView). runner.crew ≡ crew_by c.args.workers c.deref.result.now)
     (λ (runner : RunnerView). runner.crew ≡ crew_for c.args.net c.args.workers)
-    (λ runner is. is ∙ ap (crew_by c.args.workers) ?) c.new-2.ensures.crew
+    (λ runner is. is ∙ ap (crew_by c.args.workers) (c.deref.ensures.value ∙ c.in_ok-homes.ensures.home
+    ∙ ap (λ (list : List Actor). homes_for (length list) c.args.workers) c.list.ensures)) c.new-2.ensures.crew
