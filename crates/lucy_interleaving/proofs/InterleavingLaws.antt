@@ -13,7 +13,7 @@ use Rattle.lucy_stream.specs.Iterates.{iterate}
 use Rattle.lucy_stream.specs.Runs.{none_done, first_left, IsPossible, IsRun, IsFinished, IsWhole}
 use Rattle.lucy_stream.specs.States.{State, start, held, events, IsState}
 use Rattle.lucy_stream.specs.Schedules.{events_to}
-use Rattle.lucy_stream.specs.Plans.{Link, no_link, link_at, system, machine, kahn_list, IsPlugged, IsOperand, IsRunnable}
+use Rattle.lucy_stream.specs.Plans.{Link, no_link, system, machine, kahn_list, IsPlugged, IsOperand}
 use Rattle.lucy_stream.proofs.PlanLaws.{IsWired-plan, IsLocal-plan}
 use Rattle.lucy_stream.proofs.StateLaws.{IsState-start, IsState-events, held-most}
 use Rattle.lucy_stream.proofs.StuckLaws.{first_left-some, first_left-none}
@@ -27,7 +27,6 @@ use Rattle.lucy_net.specs.declared.net.Actor.{Actor}
 use Rattle.lucy_net.specs.declared.net.RingSpec.{RingSpec}
 use Rattle.lucy_net.specs.declared.net.Net.{Net}
 use Rattle.lucy_net.specs.Plans.{link_of, giver, taker, plan, net_system}
-use Rattle.lucy_net.specs.Proper.{IsProperRing}
 use Rattle.lucy_net.specs.Causal.{net_places}
 use Rattle.lucy_net.specs.Orders.{IsSound}
 use Rattle.lucy_net.proofs.WhereLaws.{operand_of}
@@ -54,7 +53,7 @@ use Rattle.lucy_results.proofs.NetLaws.{runnable, turns_are}
 use Rattle.lucy_program.specs.declared.accepted.Accepted.{Accepted}
 use Rattle.lucy_program.specs.declared.options.Options.{Options}
 use Rattle.lucy_program.specs.Accepting.{IsAccepted}
-use Rattle.lucy_interleaving.specs.Interleavings.{machine_for, IsBuffer, reported_size, stream_for, IsSafe, IsFedText}
+use Rattle.lucy_interleaving.specs.Interleavings.{machine_for, IsSafe, IsFedText}
 
 -- what stands at a place of a list
 get_at : (xs : List ℕ) (j r : ℕ) → IsOperand xs j r → slice_get xs j ≡ Some r

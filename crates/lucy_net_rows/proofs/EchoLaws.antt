@@ -14,7 +14,7 @@ use Rattle.lucy_net.specs.Proper.{IsProperActor, IsProperRing, IsProper, IsSuppl
 use Rattle.lucy_net.specs.States.{KnowsOperator}
 use Rattle.lucy_net.specs.Schedules.{Timetable, IsScheduleOf}
 use Rattle.lucy_core.specs.Seen.{Seen, IsOutputOf, CanMakeCore, first_seen, after_picks}
-use Rattle.lucy_runner.specs.Views.{RingView, RunnerView, input_count, inputs_for, first_runner}
+use Rattle.lucy_runner.specs.Views.{RingView, RunnerView, inputs_for, first_runner}
 use Rattle.lucy_runner.specs.Blocks.{longer_inputs, grown_seen}
 use Rattle.lucy_net_rows.specs.Ready.{HasOneList}
 use Rattle.lucy_net_rows.specs.Echo.{giver, taker, ring, echo, IsEchoReady, IsEcho}

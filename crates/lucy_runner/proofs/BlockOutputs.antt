@@ -9,7 +9,7 @@ use Rattle.lucy_stream.specs.Systems.{RingOp, Takes, Gives, op_at}
 use Rattle.lucy_stream.specs.States.{Machine, State, held, took_after, event, events}
 use Rattle.lucy_net.specs.declared.net.Actor.{Actor}
 use Rattle.lucy_core.specs.Seen as core
-use Rattle.lucy_core.specs.Seen.{Seen, CanRun, IsOutputOf, first_ring, after_picks}
+use Rattle.lucy_core.specs.Seen.{CanRun, IsOutputOf, first_ring, after_picks}
 use Rattle.lucy_core.proofs.OpenLaws.{IsSound, events_lead}
 use Rattle.lucy_runner.proofs.Blocks.{Block, then, Gets, gets}
 use Rattle.lucy_runner.proofs.BlockStates.{last, same_state}

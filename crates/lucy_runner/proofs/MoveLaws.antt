@@ -14,7 +14,6 @@ use Rattle.lucy_core.specs.Seen.{machine_on, done_of}
 use Rattle.lucy_core.proofs.PickLaws.{possible_in}
 use Rattle.lucy_ring.specs.Views.{GiverView, TakerView}
 use Rattle.lucy_worker.specs.Parts as parts
-use Rattle.lucy_worker.specs.Parts.{CanMove}
 use Rattle.lucy_worker.specs.Rounds.{KnowsAll}
 use Rattle.lucy_worker.proofs.RoundLaws.{could_move}
 use Rattle.lucy_runner.specs.Crews.{part_of, done_in, AreJoined}

@@ -2,7 +2,6 @@
 ghost use Rattle.std.specs.Prelude.{ℕ, ◌≡◌, ◌+◌, ◌<◌, ◌≤◌, ◌^◌, [], ◌∷◌, ◌++◌, All, length, map, true, slice_index, slice_get, IfOk};
 ghost use Rattle.lucy_word.specs.Limits.{limit_number};
 ghost use Rattle.lucy_word.specs.declared.limit.Limit.TheVariants as limit;
-ghost use Rattle.lucy_worker.specs.News.{IsNew, ends_by};
 ghost use Rattle.lucy_runner.specs.Views.{most_workers};
 ghost use Rattle.lucy_runner.specs.Homes.{is_home, at_home, crew_by, actors_by};
 ghost use Rattle.lucy_runner.specs.Crews.{crew_of};

@@ -1,6 +1,5 @@
 use Rattle.std.proofs.Common.{[], ◌∷◌, refl, ap, sym, inl, inr}
 use Rattle.lucy_host.specs.Host.{lent}
-use Rattle.lucy_text.specs.Sources.{Unread}
 use Rattle.lucy_command.specs.Named.{named, kahn_named}
 use Rattle.lucy_app.specs.Outcomes.{bytes_of, made_given}
 use Rattle.lucy_app.specs.World.{Given}

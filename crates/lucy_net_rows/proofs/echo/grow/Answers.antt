@@ -1,4 +1,4 @@
-use Rattle.lucy_net_rows.proofs.EchoLaws.{longer_supplied, longer_echo}
+use Rattle.lucy_net_rows.proofs.EchoLaws.{longer_supplied}
 use Rattle.lucy_net_rows.proofs.echo.grow.Goals as goal
 
 pub more-requires-clause-supplied : goal.more-requires-clause-supplied

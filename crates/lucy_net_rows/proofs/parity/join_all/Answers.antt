@@ -1,5 +1,4 @@
 use Rattle.std.proofs.Common.{List, sym, subst}
-use Rattle.lucy_net_rows.specs.declared.parity.Link.{Link}
 use Rattle.lucy_net_rows.specs.ByHand.{AreJoined}
 use Rattle.lucy_net_rows.proofs.HandLaws.{none_joined, more_joined}
 use Rattle.lucy_net_rows.proofs.parity.join_all.Goals as goal
