@@ -1,11 +1,12 @@
 -- A text is answered, or refused for one cause.
-use Rattle.std.proofs.Common.{ℕ, ◌≡◌, List, [], ◌∷◌, Result, Ok, Err, ap, sym, ◌∙◌, subst, inl, inr}
+use Rattle.std.proofs.Common.{ℕ, ◌≡◌, List, [], ◌∷◌, Ok, Err, ap, sym, ◌∙◌, subst, inl, inr}
 use Rattle.lucy_word.specs.Bits.{Bits}
-use Rattle.lucy_word.specs.Reading.{IsReadable, RefusesText}
+use Rattle.lucy_word.specs.Reading.{IsReadable, RefusesWordText}
 use Rattle.lucy_word.specs.declared.error.WordError.{WordError}
 use Rattle.lucy_word.specs.declared.error.WordError.TheVariants as word
 use Rattle.lucy_word.specs.declared.limit.Limit.TheVariants as limit
-use Rattle.lucy_word.proofs.SpellingLaws.{reads_one}
+use Rattle.lucy_word.proofs.SpellingLaws.{reads_one, refuses_one}
+use Rattle.lucy_token.proofs.WordLaws.{readable_one}
 use Rattle.lucy_app.specs.Fields.{field_texts}
 use Rattle.lucy_check.specs.Horizon.{AreFar}
 use Rattle.lucy_check.specs.Verdicts.{IsVerdict}
@@ -21,7 +22,7 @@ word_cause number word.NoOne = NoOne number
 word_cause number e = Limit limit.Written
 
 -- a field that is refused is read with an error that gives the cause
-told : (number : ℕ) (text : List ℕ) (cause : InputCause) → RefusesWord number text cause → (e : WordError) × RefusesText text e × (cause ≡ word_cause number e)
+told : (number : ℕ) (text : List ℕ) (cause : InputCause) → RefusesWord number text cause → (e : WordError) × RefusesWordText text e × (cause ≡ word_cause number e)
 unfolding word_cause
 told number text (BadWord which place) is = (word.BadWord place, is.1, ap (λ n. BadWord n place) is.0)
 told number text (NoOne which) is = (word.NoOne, is.1, ap NoOne is.0)
@@ -34,15 +35,12 @@ readable_is_not_refused number text a cause is not =
     let t = told number text cause not in
     let same = reads_one text (Ok a) (Err t.0) is t.1 in cc
 
-one_error : (text : List ℕ) (e f : WordError) → RefusesText text e → RefusesText text f → e ≡ f
-one_error text e f is other = let same : ◌≡◌ {A = Result Bits WordError} (Err e) (Err f) = reads_one text (Err e) (Err f) is other in cc
-
 -- a field is refused for one cause
 pub one_cause_of_a_word : (number : ℕ) (text : List ℕ) (c d : InputCause) → RefusesWord number text c → RefusesWord number text d → c ≡ d
 one_cause_of_a_word number text c d is other =
     let s = told number text c is in
     let t = told number text d other in
-    s.2 ∙ ap (word_cause number) (one_error text s.0 t.0 s.1 t.1) ∙ sym t.2
+    s.2 ∙ ap (word_cause number) (refuses_one text s.0 t.0 s.1 t.1) ∙ sym t.2
 
 same_first : (texts : List (List ℕ)) (u v x y : List ℕ) → texts ≡ u ∷ v ∷ [] → texts ≡ x ∷ y ∷ [] → u ≡ x
 same_first texts u v x y h k = cc
@@ -63,16 +61,13 @@ one_cause_of_fields (u ∷ (v ∷ [])) c d (inr (a, is, inr h)) (inr (b, also, i
 one_cause_of_fields (u ∷ (v ∷ [])) c d (inr (a, is, inr h)) (inr (b, also, inr k)) = h.3 ∙ sym k.3
 one_cause_of_fields (u ∷ (v ∷ (w ∷ texts))) c d h k = h ∙ sym k
 
-one_bits : (text : List ℕ) (a b : Bits) → IsReadable text a → IsReadable text b → a ≡ b
-one_bits text a b is also = let same : ◌≡◌ {A = Result Bits WordError} (Ok a) (Ok b) = reads_one text (Ok a) (Ok b) is also in cc
-
 -- a text is one pair of words
 one_pair : (text : List ℕ) (a b c d : Bits) → IsPair text a b → IsPair text c d → (a ≡ c) × (b ≡ d)
 one_pair text a b c d is also =
     let P : List ℕ → Type 0 = λ u. IsReadable u c in
     let Q : List ℕ → Type 0 = λ u. IsReadable u d in (
-      one_bits is.0 a c is.3 (subst P (same_first (field_texts text) _ _ _ _ also.2 is.2) also.3),
-      one_bits is.1 b d is.4 (subst Q (same_second (field_texts text) _ _ _ _ also.2 is.2) also.4),
+      readable_one is.0 a c is.3 (subst P (same_first (field_texts text) _ _ _ _ also.2 is.2) also.3),
+      readable_one is.1 b d is.4 (subst Q (same_second (field_texts text) _ _ _ _ also.2 is.2) also.4),
     )
 
 -- two words about which not too many instants decide are not refused
@@ -82,7 +77,7 @@ words_are_not_refused u v a b cause is also near (inr (c, read, inl h)) = readab
 words_are_not_refused u v a b cause is also near (inr (c, read, inr (d, this, far, so))) =
     let P : Bits → Type 0 = λ x. AreFar x d in
     let Q : Bits → Type 0 = λ x. AreFar a x in
-    near (subst Q (one_bits v d b this also) (subst P (one_bits u c a read is) far))
+    near (subst Q (readable_one v d b this also) (subst P (readable_one u c a read is) far))
 
 -- nor are the fields of a text that is such words
 pub pair_is_not_refused : (text : List ℕ) (a b : Bits) (cause : InputCause) → IsPair text a b → (AreFar a b → ⊥) → RefusesFields (field_texts text) cause → ⊥

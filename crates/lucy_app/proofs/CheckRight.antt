@@ -4,6 +4,7 @@ use Rattle.std.specs.Prelude.{◌↔◌, IsSomeAnd, IfSome}
 use Rattle.std.proofs.lemmas.List.{take_all}
 use Rattle.lucy_word.specs.Limits.{limit_number}
 use Rattle.lucy_word.specs.declared.limit.Limit.TheVariants as limit
+use Rattle.lucy_word.proofs.Lists.{take_nil}
 use Rattle.lucy_host.specs.Operators.{Operator}
 use Rattle.lucy_text.specs.declared.shelf.ShelfError.{ShelfError}
 use Rattle.lucy_text.specs.declared.shelf.ShelfError.TheVariants as shelf_error
@@ -45,9 +46,6 @@ not_lacking (Some held) file text told lacks = let bad : Some text ≡ None = sy
 no_more : (between after : SeenShelf) (more : List (Result (List ℕ) ShelfError)) → Fetches [] between after more → after ≡ between
 no_more between after [] h = h
 no_more between after (fetched ∷ more) h = absurd h
-
-take_none : (n : ℕ) → take {A = ℕ} n [] ≡ []
-take_none n = take_all n [] (omega arith)
 
 -- the laws below that are called
 pub record Laws : Type 0 where
@@ -160,7 +158,7 @@ module _ (ops : List Operator) (o : Options) (before after : World) (text : List
       front_of : (answer : Answer) (n : ℕ) → Came answer → IsFront (take n answer.out)
       front_of answer n is = elim (quiet answer is) [
         | inl h ↦ let (m, text_stands, same, only, passed) = h.0 in inr (m, n, text_stands, ap (take n) same)
-        | inr h ↦ inl (ap (take n) h.0 ∙ take_none n)
+        | inr h ↦ inl (ap (take n) h.0 ∙ take_nil n)
       ]
 
       front : Ended status → IsFront output
@@ -168,7 +166,7 @@ module _ (ops : List Operator) (o : Options) (before after : World) (text : List
           let all : take (length answer.out) answer.out ≡ answer.out = take_all (length answer.out) answer.out (omega arith) in
           subst IsFront (all ∙ sym (stood answer.out wrote)) (front_of answer (length answer.out) is)
       front (inr (inl (seven, wrote))) = inl (stood [] wrote)
-      front (inr (inr (five, failed, whole, n, wrote, inl none))) = inl (stood (take n whole) wrote ∙ ap (take n) none ∙ take_none n)
+      front (inr (inr (five, failed, whole, n, wrote, inl none))) = inl (stood (take n whole) wrote ∙ ap (take n) none ∙ take_nil n)
       front (inr (inr (five, failed, whole, n, wrote, inr (answer, is, same)))) =
           subst IsFront (ap (take n) (sym same) ∙ sym (stood (take n whole) wrote)) (front_of answer n is)
 

@@ -13,9 +13,9 @@ mod TightOut
 mod Makes
 mod Owed
 mod Outcomes
-mod Sinks
-mod Runs
-mod RunEnds
+pub mod Sinks
+pub mod Runs
+pub mod RunEnds
 mod RunInputs
 mod RunRight
 mod CheckRight

@@ -14,6 +14,7 @@ use Rattle.lucy_run.specs.Owes.{EndsFor}
 use Rattle.lucy_make.specs.Text.{made_text}
 use Rattle.lucy_make.specs.Owes.{OwesSummary}
 use Rattle.lucy_text.specs.declared.shelf.ShelfError.{ShelfError}
+use Rattle.lucy_lines.proofs.SinkLaws.{unwritten}
 use Rattle.lucy_command.specs.declared.words.MakeWords.{MakeWords}
 use Rattle.lucy_command.specs.Commands.{Make}
 use Rattle.lucy_app.specs.Commands.{inferring_options}
@@ -26,7 +27,7 @@ use Rattle.lucy_app.specs.Running.{IsRunnable, OwesRunning}
 use Rattle.lucy_app.specs.Outcomes.{IsAccepting, refusal_answer, EndsMake, Prints, TellsEnding, TellsRefusal, made_given, NoRun}
 use Rattle.lucy_app.specs.declared.refusal.Refusal.{Refusal}
 use Rattle.lucy_app.specs.declared.refusal.Refusal.TheVariants as refusal
-use Rattle.lucy_app.proofs.Sinks.{unwritten, ends_refused}
+use Rattle.lucy_app.proofs.Sinks.{ends_refused}
 use Rattle.lucy_app.proofs.Runs.{unrun_owed}
 
 -- no run ends with a failed write, as far as its input says

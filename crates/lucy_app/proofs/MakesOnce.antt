@@ -3,7 +3,7 @@ use Rattle.std.proofs.Common.{ℕ, ◌≡◌, Bool, true, List, [], ◌∷◌, l
 use Rattle.std.specs.Prelude.{ℤ, IsTrue, slice_index_or}
 use Rattle.lucy_word.specs.Bits.{Bits}
 use Rattle.lucy_host.specs.declared.kind.HostKind.{HostKind}
-use Rattle.lucy_lines.specs.Cuts.{Stop as Halt, At, Before, Cut, input_of}
+use Rattle.lucy_lines.specs.Cuts.{Stop as Halt, At, Before, Cut, whole_input}
 use Rattle.lucy_lines.specs.CutLaws.{OneCut}
 use Rattle.lucy_lines.specs.declared.input.InputSpec.{InputSpec}
 use Rattle.lucy_lines.specs.declared.reader.TextFault.{TextFault}
@@ -35,9 +35,9 @@ pub whole_feeds : OneCut → (inputs : List InputSpec) (taken : List ℕ) (stop 
 whole_feeds cut [] taken stop other lists others fault way w v p q = (p.2 ∙ sym q.2, p.3 ∙ sym q.3)
 whole_feeds cut (input ∷ inputs) taken stop other lists others fault way w v p q =
     let ins : List InputSpec = input ∷ inputs in
-    let P : Bool → Type 0 = λ b. Cut ins b (input_of taken) p.0 p.1 in
-    let Q : Bool → Type 0 = λ b. Cut ins b (input_of taken) q.0 q.1 in
-    let one = cut ins true (input_of taken) p.0 q.0 p.1 q.1 (subst P w p.2.cut) (subst Q v q.2.cut) in (
+    let P : Bool → Type 0 = λ b. Cut ins b (whole_input taken) p.0 p.1 in
+    let Q : Bool → Type 0 = λ b. Cut ins b (whole_input taken) q.0 q.1 in
+    let one = cut ins true (whole_input taken) p.0 q.0 p.1 q.1 (subst P w p.2.cut) (subst Q v q.2.cut) in (
       p.2.lists ∙ ap (values_by_stream (length ins)) one.0 ∙ sym q.2.lists,
       p.2.fault ∙ whole_fault stop p.1 w ∙ ap (fault_of Ended) one.1 ∙ sym (whole_fault other q.1 v) ∙ sym q.2.fault,
     )

@@ -1,13 +1,13 @@
 -- Of a text that is two fields, the first and the second.
 use Rattle.std.proofs.Common.{ℕ, ◌≤◌, ◌<◌, ◌≡◌, List, [], ◌∷◌, length, map, get_or, Result, Ok, Err, refl, ◌∙◌, sym, subst, inl, inr, arith}
-use Rattle.std.specs.Prelude.{IfErr, IsErrAnd}
+use Rattle.std.specs.Prelude.{IfErr}
 use Rattle.std.specs.declared.alloc.Global.{Global}
 use Rattle.std.specs.declared.vec.Vec.{Vec}
 use Rattle.lucy_word.specs.Bits.{Bits}
 use Rattle.lucy_word.specs.Reading.{IsReadable}
 use Rattle.lucy_word.specs.Limits.{limit_number}
 use Rattle.lucy_word.specs.declared.limit.Limit.TheVariants as limit
-use Rattle.lucy_check.specs.Horizon.{IsHorizon, AreFar}
+use Rattle.lucy_check.specs.Horizon.{AreDecidedBy, AreFar}
 use Rattle.lucy_check.proofs.CheckLaws.{horizon_one}
 use Rattle.lucy_app.specs.Fields.{field_texts}
 use Rattle.lucy_app.specs.Order.{IsPair, IsVerdictLine, RefusesWord, RefusesFields}
@@ -73,13 +73,8 @@ far_refused u v a b (Err (unjudged.Input cause)) first second h = inr (a, first,
 far_refused u v a b (Err unjudged.OutOfMemory) first second h = tt
 
 -- so many instants decide
-pub is_far : (a b : Bits) (n : ℕ) → IsHorizon a b n → limit_number limit.Compare < n → AreFar a b
+pub is_far : (a b : Bits) (n : ℕ) → AreDecidedBy a b n → limit_number limit.Compare < n → AreFar a b
 is_far a b n is past = (n, is, past)
 
-pub is_near : (a b : Bits) (n : ℕ) → IsHorizon a b n → n ≤ limit_number limit.Compare → AreFar a b → ⊥
+pub is_near : (a b : Bits) (n : ℕ) → AreDecidedBy a b n → n ≤ limit_number limit.Compare → AreFar a b → ⊥
 is_near a b n is within far = omega (arith, horizon_one a b n far.0 is far.1, far.2, within)
-
--- an error that is passed on
-pub passed_on : {T E : Type 0} (P : E → Type 0) (r : Result T E) (e : E) → IsErrAnd r (λ y. y ≡ e) → P e → IfErr r P
-passed_on P (Ok x) e h p = absurd h
-passed_on P (Err y) e h p = subst P (sym h) p

@@ -11,7 +11,6 @@ use Rattle.lucy_text.specs.Outside.{SeenSource, SeenSink, Writes}
 use Rattle.lucy_text.specs.declared.shelf.ShelfError.{ShelfError}
 use Rattle.lucy_text.specs.declared.shelf.ShelfError.TheVariants as shelf
 use Rattle.lucy_text.proofs.OutsideLaws.{followed-nil, still_none}
-use Rattle.lucy_lines.specs.declared.input.InputSpec.{InputSpec}
 use Rattle.lucy_text.specs.Sources.{ReadStop, Unread, Read}
 use Rattle.lucy_lines.specs.Feeding.{IsAsked}
 use Rattle.lucy_fields.specs.Readings.{AreRead, IsFirstBad}
@@ -37,6 +36,7 @@ use Rattle.lucy_app.specs.Outcomes.{bytes_of, IsAccepting, TellsRefusal, TellsEn
 use Rattle.lucy_app.specs.declared.refusal.Refusal.{Refusal}
 use Rattle.lucy_app.specs.declared.refusal.Refusal.TheVariants as refusal
 use Rattle.lucy_app.proofs.Sinks.{ends_refused}
+use Rattle.lucy_app.proofs.RunEnds.{some_or_none}
 
 -- a fetch of a log gave none
 pub log_unfetched : (e : ShelfError) → (fetch_refusal_within limit.Log e ≡ refusal.OutOfMemory) ⊎ OwesLog NoEvents Unread (Err e) (refusal_answer (fetch_refusal_within limit.Log e))
@@ -90,10 +90,6 @@ log_more A B more stop (Err shelf.OutOfMemory) x h = h
 -- a source that was left alone
 pub read_nothing : (s : SeenSource) → Read (limit_number limit.Input) s s [] Unread
 read_nothing s = record { took = sym (followed-nil s.left); stopped = (refl, refl); none_follows = still_none s.since_stop }
-
-some_or_none : (inputs : List InputSpec) → (inputs ≡ []) ⊎ (inputs ≢ [])
-some_or_none [] = inl refl
-some_or_none (input ∷ inputs) = inr (λ e. cc e)
 
 -- of a log that was read these events are owed
 with_picks : (log : Result (List ℕ) ShelfError) (picks : List ℕ) (Owed : List ℕ → Answer → Type 0) (stop : ReadStop) (x : Answer) → IsOkAnd log (λ text. AreRead (picks_of text) picks) → Owed picks x → OwesLog Owed stop log x

@@ -32,6 +32,7 @@ use Rattle.lucy_app.specs.declared.refusal.Refusal.{Refusal}
 use Rattle.lucy_app.specs.declared.refusal.Refusal.TheVariants.{OutOfMemory}
 use Rattle.lucy_app.proofs.Runs.{text_more, ends_unrun, ends_run}
 
+-- a program has no inputs, or some
 pub some_or_none : (inputs : List InputSpec) → (inputs ≡ []) ⊎ (inputs ≢ [])
 some_or_none [] = inl refl
 some_or_none (input ∷ inputs) = inr (λ e. cc e)

@@ -21,6 +21,7 @@ use Rattle.lucy_app.specs.declared.refusal.Refusal.{Refusal}
 use Rattle.lucy_app.specs.declared.refusal.Refusal.TheVariants as refusal
 use Rattle.lucy_app.proofs.Sinks.{ends_refused}
 
+-- what follows from what holds of an answer that went well
 pub ok_more : {T E : Type 0} (r : Result T E) (P Q : T → Type 0) → ((x : T) → P x → Q x) → IsOkAnd r P → IsOkAnd r Q
 ok_more (Ok x) P Q more h = more x h
 ok_more (Err e) P Q more h = h

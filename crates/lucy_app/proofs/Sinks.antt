@@ -3,11 +3,11 @@ use Rattle.std.proofs.Common.{ℕ, ◌≡◌, ◌⊎◌, List, [], Option, Some,
 use Rattle.std.specs.Prelude.{MatchOption}
 use Rattle.std.specs.declared.alloc.Global.{Global}
 use Rattle.std.specs.declared.vec.Vec.{Vec}
-use Rattle.lucy_text.proofs.OutsideLaws.{appended-nil}
 use Rattle.lucy_command.specs.Commands.{ProgramWords, Command, Run}
 use Rattle.lucy_app.specs.Commands.{running_words}
 use Rattle.lucy_run.specs.Ends.{IsFrontOf}
 use Rattle.lucy_text.specs.Outside.{SeenSink, Writes}
+use Rattle.lucy_lines.proofs.SinkLaws.{unwritten}
 use Rattle.lucy_app.specs.World.{World, Given, HasMetWorld}
 use Rattle.lucy_app.specs.Endings.{write_fault_line}
 use Rattle.lucy_front.specs.Refusals.{memory_line}
@@ -21,10 +21,7 @@ use Rattle.lucy_app.specs.declared.refusal.Refusal.{Refusal}
 use Rattle.lucy_app.specs.declared.refusal.Refusal.TheVariants.{Program, Input, NoInstants, NoBuffer, Log, ReadFault, OutOfMemory}
 
 -- a sink that is as it was has no more bytes
-pub unwritten : (s : SeenSink) → Writes s s []
-unwritten s = record { written = sym (appended-nil s.written); faults = refl; goes_on = λ none. none; untouched = λ none. refl }
-
-nothing_written : (s t : SeenSink) (bytes : List ℕ) → t ≡ s → bytes ≡ [] → Writes s t bytes
+pub nothing_written : (s t : SeenSink) (bytes : List ℕ) → t ≡ s → bytes ≡ [] → Writes s t bytes
 nothing_written s t bytes same none =
     let P : SeenSink → Type 0 = λ u. Writes s u bytes in
     let Q : List ℕ → Type 0 = λ u. Writes s s u in

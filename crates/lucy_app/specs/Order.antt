@@ -2,7 +2,7 @@
 use Rattle.std.specs.Prelude.{ℕ, ◌≡◌, ◌⊎◌, List, [], ◌∷◌, ◌++◌, length, codes}
 use Rattle.std.specs.Fmt.{decimal}
 use Rattle.lucy_word.specs.Bits.{Bits}
-use Rattle.lucy_word.specs.Reading.{IsReadable, RefusesText}
+use Rattle.lucy_word.specs.Reading.{IsReadable, RefusesWordText}
 use Rattle.lucy_word.specs.declared.error.WordError.TheVariants as word
 use Rattle.lucy_word.specs.declared.limit.Limit.TheVariants as limit
 use Rattle.lucy_check.specs.Horizon.{AreFar}
@@ -29,9 +29,9 @@ IsVerdictLine text line = (a : Bits) × (b : Bits) × (v : Verdict) × IsPair te
 
 -- the field with this number, from 1, is refused for this cause
 abbrev pub RefusesWord : ℕ → List ℕ → InputCause → Type 0
-RefusesWord number text (BadWord which place) = (which ≡ number) × RefusesText text (word.BadWord place)
-RefusesWord number text (NoOne which) = (which ≡ number) × RefusesText text word.NoOne
-RefusesWord number text (Limit passed) = (passed ≡ limit.Written) × RefusesText text word.TooLong
+RefusesWord number text (BadWord which place) = (which ≡ number) × RefusesWordText text (word.BadWord place)
+RefusesWord number text (NoOne which) = (which ≡ number) × RefusesWordText text word.NoOne
+RefusesWord number text (Limit passed) = (passed ≡ limit.Written) × RefusesWordText text word.TooLong
 RefusesWord number text (Count count) = ⊥
 
 -- the fields are refused for this cause: of two the first word that is refused, else that too many instants decide; else their count

@@ -4,8 +4,8 @@ ghost use Rattle.lucy_app.specs.Endings as spec;
 
 use crate::limit::limit_text;
 use lucy_lines::TextFault;
-use lucy_word::{Limit, OutOfMemory};
-use std::alloc::Global;
+use lucy_word::Limit;
+use std::alloc::{AllocError, Global};
 
 /// The status that a run ends with.
 pub(crate) fn fault_status(fault: TextFault) -> u8
@@ -21,7 +21,7 @@ pub(crate) fn fault_status(fault: TextFault) -> u8
 }
 
 /// The line on the fault sink.
-pub(crate) fn fault_line(alloc: Global, fault: TextFault) -> Result<Vec<u8>, OutOfMemory>
+pub(crate) fn fault_line(alloc: Global, fault: TextFault) -> Result<Vec<u8>, AllocError>
     ensures { IfOk result (λ v. v.items ≡ (spec.fault_told fault).1) }
 {
     let line = match fault {

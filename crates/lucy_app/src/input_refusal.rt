@@ -3,8 +3,8 @@ ghost use Rattle.std.specs.Prelude.{◌≡◌, IfOk};
 ghost use Rattle.lucy_app.specs.InputRefusals.{input_told};
 
 use crate::limit::limit_text;
-use lucy_word::{Limit, OutOfMemory};
-use std::alloc::Global;
+use lucy_word::Limit;
+use std::alloc::{AllocError, Global};
 
 /// Why the input of `order` has no answer.
 #[derive(Drop)]
@@ -34,7 +34,7 @@ impl InputCause {
     }
 
     /// The line on the fault sink.
-    pub fn line(&self, alloc: Global) -> Result<Vec<u8>, OutOfMemory>
+    pub fn line(&self, alloc: Global) -> Result<Vec<u8>, AllocError>
         ensures { IfOk result (λ v. v.items ≡ (input_told self.now).1) }
     {
         let line = match self {

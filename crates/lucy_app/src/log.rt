@@ -6,8 +6,8 @@ ghost use Rattle.lucy_app.specs.Outcomes.{bytes_of, IsLogRead, Tellable};
 use crate::refusal::{Refusal, unfetched};
 use lucy_text::ShelfError;
 use lucy_trace::{TraceError, read_log};
-use lucy_word::{Limit, OutOfMemory};
-use std::alloc::Global;
+use lucy_word::Limit;
+use std::alloc::{AllocError, Global};
 
 /// The actors of the log that a fetch gave, in order, or why there are none.
 pub(crate) fn picks(
@@ -28,7 +28,7 @@ pub(crate) fn picks(
 }
 
 /// The line on the fault sink of a log that is refused.
-pub(crate) fn log_line(alloc: Global, error: TraceError) -> Result<Vec<u8>, OutOfMemory>
+pub(crate) fn log_line(alloc: Global, error: TraceError) -> Result<Vec<u8>, AllocError>
     ensures { IfOk result (λ v. v.items ≡ spec.log_line error) }
 {
     let line = match error {

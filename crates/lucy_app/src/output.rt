@@ -11,8 +11,7 @@ use crate::refusal::{Refusal, program_status};
 use lucy_front::refusal_text;
 use lucy_run::Ending;
 use lucy_text::{Sink, write_all};
-use lucy_word::OutOfMemory;
-use std::alloc::Global;
+use std::alloc::{AllocError, Global};
 
 // The status where a write failed.
 const WRITE_FAULT: u8 = 5;
@@ -29,7 +28,7 @@ pub fn tell<E: Sink>(err: &mut E, lines: &[u8], status: u8) -> u8
 }
 
 /// Says why there is no answer or, where there is no memory for that, that it ran out.
-pub fn explain<E: Sink>(err: &mut E, lines: Result<Vec<u8>, OutOfMemory>, status: u8) -> u8
+pub fn explain<E: Sink>(err: &mut E, lines: Result<Vec<u8>, AllocError>, status: u8) -> u8
     ensures ok { IfOk lines (λ v. Tells status v.items (E.seen err.old) (E.seen err.new) result) }
     ensures err { OnErr lines (Tells 7 memory_line (E.seen err.old) (E.seen err.new) result) }
     ensures count { (E.seen err.old).faults ≤ (E.seen err.new).faults }

@@ -10,7 +10,7 @@ use lucy_naming::NameError;
 use lucy_syntax::SyntaxError;
 use lucy_text::{ReadError, ShelfError};
 use lucy_trace::TraceError;
-use lucy_word::{Limit, OutOfMemory};
+use lucy_word::Limit;
 use std::alloc::AllocError;
 
 /// Why a command has no answer.
@@ -76,14 +76,6 @@ impl From<ReadError> for Refusal {
             ReadError::Failed => Refusal::ReadFault,
             ReadError::OutOfMemory => Refusal::OutOfMemory,
         }
-    }
-}
-
-impl From<OutOfMemory> for Refusal {
-    ghost from_gives = { λ _ e. e ≡ OutOfMemory };
-
-    fn from(_: OutOfMemory) -> Self {
-        Refusal::OutOfMemory
     }
 }
 

@@ -10,8 +10,7 @@ use lucy_place::{PlaceEntry, Placed};
 use lucy_program::{node_line, type_name};
 use lucy_tree::Name;
 use lucy_types::{Ty, Typed};
-use lucy_word::OutOfMemory;
-use std::alloc::Global;
+use std::alloc::{AllocError, Global};
 
 // `  NAME : TYPE`, for a place that has a name.
 fn name_line(
@@ -20,7 +19,7 @@ fn name_line(
     name: &Option<Name>,
     ty: Ty,
     out: &mut Vec<u8>,
-) -> Result<(), OutOfMemory>
+) -> Result<(), AllocError>
     ensures { OnOk result (out.new.items ≡ out.old.items ++ lines.name_line main name.now ty []) }
 {
     let Some(name) = name else {
@@ -42,7 +41,7 @@ fn name_lines(
     typed: &Typed,
     node: u32,
     out: &mut Vec<u8>,
-) -> Result<(), OutOfMemory>
+) -> Result<(), AllocError>
     requires node { node < length typed.now }
     requires few { length entries.now ≤ most_places }
     requires all { length (table_at typed.now node) ≡ length entries.now }
@@ -56,7 +55,7 @@ fn name_lines(
 }
 
 /// The lines of each node, in order, of which the last is main.
-pub(crate) fn report(alloc: Global, placed: &Placed, typed: &Typed) -> Result<Vec<u8>, OutOfMemory>
+pub(crate) fn report(alloc: Global, placed: &Placed, typed: &Typed) -> Result<Vec<u8>, AllocError>
     requires { IsTyped placed.now.nodes typed.now }
     ensures { IfOk result (λ v. v.items ≡ spec.type_report placed.now.nodes typed.now) }
 {

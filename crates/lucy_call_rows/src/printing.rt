@@ -36,13 +36,9 @@ fn list_of(alloc: Global, value: i64, count: u32) -> Result<Inputs, AllocError>
     ensures { IfOk result (λ lists. length lists ≡ 1) }
 {
     let mut lists = Inputs::new(alloc);
-    if lists.add_list(alloc).is_err() {
-        return Err(AllocError);
-    }
+    lists.add_list(alloc)?;
     for _ in 0..count {
-        if lists.push(alloc, 0, value).is_err() {
-            return Err(AllocError);
-        }
+        lists.push(alloc, 0, value)?;
     }
     Ok(lists)
 }

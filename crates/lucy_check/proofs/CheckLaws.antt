@@ -1,7 +1,6 @@
 -- Laws of passing needs.
-use Rattle.std.proofs.Common.{ℕ, zero, suc, ◌+◌, ◌<◌, ◌≤◌, ◌≡◌, ◌∷◌, ◌++◌, [], List, Option, Some, Result, length, get_or, drop, ap, sym, refl, ◌∙◌, subst, inl, inr, arith, append_assoc, add-one, drop-cons}
-use Rattle.std.specs.Prelude.{slice_get, option_to_list, IfErr, MatchResult, IsErrAnd}
-use Rattle.std.specs.List.{AllByRecursion}
+use Rattle.std.proofs.Common.{ℕ, ◌+◌, ◌<◌, ◌≤◌, ◌≡◌, ◌∷◌, ◌++◌, [], List, Option, Some, Result, length, get_or, drop, ap, sym, refl, ◌∙◌, subst, inl, inr, arith, append_assoc}
+use Rattle.std.specs.Prelude.{slice_get, option_to_list, MatchResult, IsErrAnd}
 use Rattle.std.proofs.lemmas.Bool.{cases_lt}
 use Rattle.std.proofs.lemmas.Result.{err_from_is_err_and}
 use Rattle.std.proofs.lemmas.Option.{same_Some, slice_get_read, get_or_from_slice_get}
@@ -17,17 +16,12 @@ use Rattle.lucy_word.specs.Stored.{IsStored}
 use Rattle.lucy_word.specs.Always.{always}
 use Rattle.lucy_word.proofs.AdaptableLaws.{adaptable_same}
 use Rattle.lucy_word.proofs.Multiples.{lcm_one}
-use Rattle.lucy_check.specs.Horizon.{IsHorizon}
+use Rattle.lucy_word.proofs.Lists.{drop_next, all_at}
+use Rattle.lucy_check.specs.Horizon.{AreDecidedBy}
 use Rattle.lucy_check.specs.declared.fault.CheckFault.{CheckFault}
 use Rattle.lucy_check.specs.Passing.{IsTermPassing, AreWithinLimits, OrNoMemory, PassesTermLimit, Passes, RefusesNeed, PassesAll, IsWithinLimits, AllWithinLimits, IsFirstRefusal, IsBeyond}
 
 -- the error of a call goes out of the function by `?`
-pub leaves : {T : Type 0} (P Q : CheckFault → Type 0) (e : CheckFault) (r : Result T CheckFault) →
-    IsErrAnd r (λ y. y ≡ e) → P e → ((y : CheckFault) → P y → Q y) → IfErr r Q
-leaves P Q e r i h f =
-    let p = err_from_is_err_and r i in
-    rw (p.1, p.2) (f e h)
-
 pub leaves_match : {T : Type 0} (R : T → Type 0) (P Q : CheckFault → Type 0) (e : CheckFault) (r : Result T CheckFault) →
     IsErrAnd r (λ y. y ≡ e) → P e → ((y : CheckFault) → P y → Q y) → MatchResult r R Q
 leaves_match R P Q e r i h f =
@@ -46,7 +40,7 @@ passing w t a word e on stored within = record {
 }
 
 -- two words have one horizon
-pub horizon_one : (a b : Bits) (m n : ℕ) → IsHorizon a b m → IsHorizon a b n → m ≡ n
+pub horizon_one : (a b : Bits) (m n : ℕ) → AreDecidedBy a b m → AreDecidedBy a b n → m ≡ n
 horizon_one a b m n h k = omega (arith, h.2, k.2, lcm_one (length a.period) (length b.period) h.0 k.0 h.1 k.1)
 
 -- the clocks of a need's terms
@@ -77,6 +71,7 @@ passes_within : (w : Assignment) (need : Need) (size : Option ℕ) → Passes w 
 passes_within w (Equal s t) size p = (p.0, p.1, p.2)
 passes_within w (Adapt s t) size p = (p.0, p.1, p.2)
 
+-- needs that words pass are within the limits
 pub all_within : (w : Assignment) (needs : List Need) (sizes : List ℕ) → PassesAll w needs sizes → AllWithinLimits w needs
 all_within w [] sizes p = tt
 all_within w (need ∷ needs) sizes p = (passes_within w need p.0 p.2, all_within w needs p.1 p.3)
@@ -106,12 +101,6 @@ refuses_beyond w number (Adapt s t) e (inr d) met =
       | inr r ↦ (let late : ones_to d.0 r.0 < ones_to d.1 r.0 = r.2.1.late in absurd (omega (arith, is.1 r.0)))
     ]
 
--- what holds of all holds of one
-pub all_at : {A : Type 0} (P : A → Type 0) (xs : List A) (i : ℕ) (x : A) → AllByRecursion P xs → slice_get xs i ≡ Some x → P x
-all_at P [] i x all e = absurd (cc)
-all_at P (y ∷ xs) zero x all e = subst P (same_Some y x e) all.0
-all_at P (y ∷ xs) (suc i) x all e = all_at P xs i x all.1 e
-
 pub unmet : (w : Assignment) (needs : List Need) (e : CheckFault) → OrNoMemory (IsFirstRefusal w needs) e → MeetsAll w needs → IsBeyond e
 unmet w needs e (inl p) met = subst IsBeyond (sym p) tt
 unmet w needs e (inr r) met = refuses_beyond w r.number r.need e r.refused (all_at (Meets w) needs r.number r.need met r.stands)
@@ -126,9 +115,6 @@ so_far_none w needs sizes e = record {
   rest = λ more p. subst (λ l. PassesAll w needs (l ++ more)) (sym e) p;
   before = λ k earlier h f. absurd (omega arith);
 }
-
-drop_next : {A : Type 0} (xs : List A) (i : ℕ) (x : A) → i < length xs → x ≡ get_or xs i x → drop i xs ≡ x ∷ drop (i + 1) xs
-drop_next xs i x h e = drop-cons xs i x h ∙ ap (λ y. y ∷ drop (suc i) xs) (sym e) ∙ ap (λ n. x ∷ drop n xs) (sym (add-one i))
 
 pub so_far_more : (w : Assignment) (needs : List Need) (i : ℕ) (sizes more : List ℕ) (need : Need) (size : Option ℕ) → PassesSoFar w needs i sizes → i < length needs → need ≡ get_or needs i need →
     Passes w need size → more ≡ sizes ++ option_to_list size → PassesSoFar w needs (i + 1) more

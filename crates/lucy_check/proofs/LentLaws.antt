@@ -1,6 +1,7 @@
 -- Laws of (1): a word on it, and it on a word, are that word, and no longer.
 use Rattle.std.proofs.Common.{ℕ, ◌*◌, ◌/◌, ◌<◌, ◌≡◌, true, false, Bool, List, [], ◌∷◌, length, ap, sym, refl, ◌∙◌, subst, arith}
 use Rattle.std.proofs.Math.Nat.{dvd_refl, one-dvd, le_of_dvd, div_self, div-one}
+use Rattle.std.proofs.lemmas.List.{nil_from_length}
 use Rattle.lucy_word.specs.Bits.{Bits, bit_at, ones_in}
 use Rattle.lucy_word.specs.Always.{always}
 use Rattle.lucy_word.specs.Multiple.{IsLcm}
@@ -13,10 +14,6 @@ use Rattle.lucy_need.specs.declared.need.Term.{Term}
 use Rattle.lucy_need.specs.Meeting.{Assignment}
 use Rattle.lucy_check.specs.Passing.{IsTermPassing}
 
-empty : (bits : List Bool) → length bits ≡ 0 → bits ≡ []
-empty [] e = refl
-empty (bit ∷ bits) e = absurd (omega (arith, e))
-
 one_bit : (bits : List Bool) → length bits ≡ 1 → 0 < ones_in bits → bits ≡ true ∷ []
 one_bit [] e h = absurd (omega (arith, e))
 one_bit (true ∷ []) e h = refl
@@ -28,7 +25,7 @@ pub always_from : (w : Bits) → length w.prefix ≡ 0 → length w.period ≡ 1
 always_from w prefix period some =
     let P : List Bool → Bits = λ p. record { prefix = p; period = w.period } in
     let Q : List Bool → Bits = λ p. record { prefix = []; period = p } in
-    ap P (empty w.prefix prefix) ∙ ap Q (one_bit w.period period some)
+    ap P (nil_from_length w.prefix prefix) ∙ ap Q (one_bit w.period period some)
 
 lcm_with_one : (n : ℕ) → 0 < n → IsLcm n 1 n
 lcm_with_one n some = record { of_left = dvd_refl n; of_right = one-dvd n; positive = some; least = λ m pos left right. le_of_dvd pos left }

@@ -8,6 +8,7 @@ use Rattle.lucy_word.specs.Shortest.{Same}
 use Rattle.lucy_word.specs.Adaptable.{IsAdaptable}
 use Rattle.lucy_word.proofs.BitsLaws.{period_some}
 use Rattle.lucy_word.proofs.ShortLaws.{shortest_one}
+use Rattle.lucy_word.proofs.Lists.{all_at}
 use Rattle.lucy_check.specs.Horizon.{AreFar}
 use Rattle.lucy_check.specs.Difference.{IsFirstDifference}
 use Rattle.lucy_check.specs.Verdicts.{IsVerdict}
@@ -21,7 +22,7 @@ use Rattle.lucy_need.proofs.TermLaws.{one_term}
 use Rattle.lucy_check.specs.declared.fault.CheckFault.{CheckFault}
 use Rattle.lucy_check.specs.declared.fault.CheckFault.TheVariants as fault
 use Rattle.lucy_check.specs.Passing.{IsTermPassing, AreWithinLimits, PassesTermLimit, Passes, RefusesNeed, PassesAll, IsWithinLimits, AllWithinLimits, IsFirstRefusal}
-use Rattle.lucy_check.proofs.CheckLaws.{met_adaptable, all_at}
+use Rattle.lucy_check.proofs.CheckLaws.{met_adaptable}
 
 -- a term has one word in shortest form
 term_one : (w : Assignment) (t : Term) (u v : Bits) → IsTermPassing w t u → IsTermPassing w t v → u ≡ v

@@ -3,7 +3,7 @@ use Rattle.std.proofs.Common.{◌≡◌, ◌+◌, ◌*◌, ◌≤◌, ℕ, subst
 use Rattle.lucy_word.specs.Bits.{Bits, bit_at, ones_to}
 use Rattle.lucy_check.specs.Verdicts.{IsVerdict}
 use Rattle.lucy_check.specs.declared.verdict.Verdict.TheVariants.{Adaptable, Rates, Late}
-use Rattle.lucy_check.specs.Horizon.{IsHorizon}
+use Rattle.lucy_check.specs.Horizon.{AreDecidedBy}
 use Rattle.lucy_check.specs.Difference.{IsFirstDifference}
 use Rattle.lucy_check.specs.declared.turns.Turns.{Turns}
 use Rattle.lucy_check.specs.Turns.{AreTurns, AreRounds, IsBest, IsLeadFrom}
@@ -57,7 +57,7 @@ late_at_1 = (
 )
 
 -- (10) is adaptable to (01) with size 1
-common : IsHorizon first second 2
+common : AreDecidedBy first second 2
 unfolding first second
 common = (2, record { of_left = dvd_refl 2; of_right = dvd_refl 2; positive = lit< tt; least = λ n some by_first by_second. le_of_dvd some by_first }, refl)
 

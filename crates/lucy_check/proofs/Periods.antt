@@ -6,7 +6,7 @@ use Rattle.lucy_word.specs.Bits.{Bits, ones_to, ones_in}
 use Rattle.lucy_word.proofs.BitsLaws.{ones_to-none}
 use Rattle.lucy_word.proofs.IndexLaws.{ones_to-periods}
 use Rattle.lucy_word.specs.Adaptable.{SameRate, Precedes, IsSize}
-use Rattle.lucy_check.specs.Horizon.{IsHorizon}
+use Rattle.lucy_check.specs.Horizon.{AreDecidedBy}
 use Rattle.lucy_check.specs.Rates.{IsNoSlower}
 
 -- what is known once the instants up to n are looked at
@@ -56,7 +56,7 @@ more_ones La Lb oa ob x y q P some by_a by_b rate =
     let w : q * (y * ob) ≤ q * (x * oa) = mul-le-mul_left q (le_of_mul-le-mul_right v some) in
     omega arith
 
-pub folded : (a b : Bits) (n : ℕ) → IsHorizon a b n → (i : ℕ) → Folds a b n i
+pub folded : (a b : Bits) (n : ℕ) → AreDecidedBy a b n → (i : ℕ) → Folds a b n i
 folded a b n horizon i =
     let La : ℕ = length a.period in
     let Lb : ℕ = length b.period in
@@ -94,12 +94,12 @@ folded a b n horizon i =
           }
     ]
 
-pub Precedes-from_walked : (a b : Bits) (n most : ℕ) → IsHorizon a b n → Walked a b n most → IsNoSlower a b → Precedes a b
+pub Precedes-from_walked : (a b : Bits) (n most : ℕ) → AreDecidedBy a b n → Walked a b n most → IsNoSlower a b → Precedes a b
 Precedes-from_walked a b n most horizon w rate i =
     let f : Folds a b n i = folded a b n horizon i in
     omega (arith, w.before f.at f.within, f.of_a, f.of_b, f.first rate)
 
-pub IsSize-from_walked : (a b : Bits) (n most : ℕ) → IsHorizon a b n → Walked a b n most → SameRate a b → IsSize a b most
+pub IsSize-from_walked : (a b : Bits) (n most : ℕ) → AreDecidedBy a b n → Walked a b n most → SameRate a b → IsSize a b most
 IsSize-from_walked a b n most horizon w same = record {
   reached = w.reached;
   passed = λ i.

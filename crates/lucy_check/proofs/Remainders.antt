@@ -4,9 +4,9 @@ use Rattle.std.proofs.Math.Nat.{div-mul_cancel, mul-div_cancel_left, div-add-mod
 use Rattle.std.proofs.lemmas.Nat.Gcd.{IsGcd-from_zero, IsGcd-from_mod, same_from_IsGcd}
 use Rattle.std.proofs.lemmas.Nat.{same_from_place, mul-le}
 use Rattle.std.proofs.lemmas.Bool.{cases_eq, cases_lt}
-use Prim.Native.Nat.{◌∣◌}
 use Rattle.std.specs.Int.{IsGcd}
 use Rattle.lucy_word.specs.Multiple.{IsLcm}
+use Rattle.lucy_word.proofs.Multiples.{divides}
 
 -- some number of a are one number more than some number of b
 pub record ComesTo (a b more : ℕ) : Type 0 where
@@ -113,9 +113,6 @@ meet a b g p q some_a some_b is agree =
 -- and only there: numbers that are the same but for turns, and less than a turn, are the same
 pub same_place : (d p q m n : ℕ) → p < d → q < d → p + m * d ≡ q + n * d → p ≡ q
 same_place d p q m n less_p less_q e = (same_from_place m p n q d less_p less_q (omega arith)).1
-
-pub divides : (d k n : ℕ) → n ≡ k * d → d ∣ n
-divides d k n e = let P : ℕ → Type 0 = λ u. d ∣ u in subst P (sym e) (dvd-mul_left d k)
 
 -- no multiple of b below that by a's part in the greatest common divisor is one of a
 least_part : (a b g r s x : ℕ) → 0 < g → 0 < r → ComesTo a b g → r * b ≡ s * a → x * g ≡ a → x ≤ r

@@ -1,12 +1,12 @@
 ghost use Rattle.std.specs.Prelude.{◌<◌, ◌^◌, ◌↔◌, IsTrue};
-ghost use Rattle.lucy_check.specs.Horizon.{IsHorizon, IsHorizonNear};
+ghost use Rattle.lucy_check.specs.Horizon.{AreDecidedBy, IsHorizonNear};
 
 use lucy_word::{Word, lcm};
 
 /// How many instants decide about all of them: the greater prefix length plus the least common multiple of the lengths of
 /// the periods.
 pub fn horizon_of(a: &Word, b: &Word) -> u64
-    ensures is { IsHorizon a.now b.now result }
+    ensures is { AreDecidedBy a.now b.now result }
     ensures fits { result < 2 ^ 63 }
 {
     let (prefix_a, period_a) = a.lengths();

@@ -14,7 +14,7 @@ use crate::fault::CheckFault;
 use crate::horizon::horizon_of;
 use crate::verdict::{Verdict, adapt};
 use lucy_need::{Need, Term};
-use lucy_word::{Limit, Word, WordError, on};
+use lucy_word::{Limit, Word, sampled};
 use std::alloc::Global;
 
 // A word that is lent, or one that was made.
@@ -64,13 +64,12 @@ fn word_of<'w>(
     if base {
         return Ok(Sampled::Lent(&term.word));
     }
-    match on(alloc, own, &term.word) {
-        Ok(word) => Ok(Sampled::Made(word)),
-        Err(WordError::TooLong) => Err(CheckFault::Limit {
+    match sampled(alloc, own, &term.word)? {
+        Some(word) => Ok(Sampled::Made(word)),
+        None => Err(CheckFault::Limit {
             need,
             limit: Limit::Word,
         }),
-        Err(_) => Err(CheckFault::OutOfMemory),
     }
 }
 

@@ -1,8 +1,8 @@
 -- The words of a written node, its calls' bases among them.
-use Rattle.std.proofs.Common.{ℕ, zero, suc, ◌+◌, ◌^◌, ◌<◌, ◌≤◌, ◌≡◌, List, [], ◌∷◌, ◌++◌, Some, None, length, get_or, take, drop, ap, sym, refl, ◌∙◌, subst, arith, append_assoc, length-append}
+use Rattle.std.proofs.Common.{ℕ, zero, suc, ◌+◌, ◌^◌, ◌<◌, ◌≤◌, ◌≡◌, List, [], ◌∷◌, ◌++◌, Some, None, length, get_or, take, ap, sym, refl, ◌∙◌, subst, arith, append_assoc, length-append}
 use Rattle.std.specs.Prelude.{slice_get}
 use Rattle.std.specs.Option.{option_map_or}
-use Rattle.std.proofs.lemmas.List.{take_more, take_all, drop_all, append-nil, map-append, length-map}
+use Rattle.std.proofs.lemmas.List.{take_more, map-append, length-map}
 use Rattle.std.proofs.lemmas.List.Sums.{sum_by-cons, sum_by-append}
 use Rattle.std.proofs.lemmas.Option.{same_Some, slice_get_read, slice_get_within, slice_get-get_or, get_or_from_slice_get}
 use Rattle.lucy_word.specs.Bits.{Bits, bit_count}
@@ -10,7 +10,7 @@ use Rattle.std.specs.List.{AllByRecursion}
 use Rattle.lucy_word.specs.Shortest.{Same}
 use Rattle.lucy_word.specs.Stored.{IsStored}
 use Rattle.lucy_word.specs.Always.{always}
-use Rattle.lucy_need.proofs.AllLaws.{all_join}
+use Rattle.lucy_word.proofs.Lists.{all_join}
 use Rattle.lucy_tree.specs.declared.span.Name.{Name}
 use Rattle.lucy_place.specs.declared.entry.PlaceEntry.{PlaceEntry}
 use Rattle.lucy_place.specs.declared.entry.PlaceKind.{PlaceKind}
@@ -111,11 +111,6 @@ bases_behind old sites have stored = record {
   stored = λ all. all_join IsStored old (base_words sites) all stored;
   bases = λ i site e. get_behind old (base_words sites) i ∙ get_base sites have i site e;
 }
-
--- a list behind a slice of all of it
-pub whole : (len : ℕ) (new items : List ℕ) → length new ≡ length items → len ≡ length items → take len (new ++ drop (length new) items) ≡ new
-whole len new items e f =
-    ap (λ l. take len (new ++ l)) (drop_all (length new) items (omega arith)) ∙ ap (take len) (append-nil new) ∙ take_all len new (omega arith)
 
 -- all words of a written node
 module _ (n : PlacedNode) (is_written : IsWritten n) (old new : List Bits) (far : AreHandedSoFar n (length n.places) old) (stored : AllByRecursion IsStored (base_words n.calls)) (e : new ≡ old ++ base_words n.calls) where

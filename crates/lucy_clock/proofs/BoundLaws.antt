@@ -8,69 +8,17 @@ use Rattle.std.proofs.lemmas.List.{length-replicate, get_or-replicate}
 use Rattle.lucy_word.specs.Bits.{Bits, bit_at, one_if, ones_to, ones_in, IsWord}
 use Rattle.lucy_word.specs.Adaptable.{SameRate, IsAdaptable, IsSize}
 use Rattle.lucy_word.specs.Shortest.{Same, IsShortest}
-use Rattle.lucy_word.specs.Always.{always}
-use Rattle.lucy_word.specs.Making.{IsMade}
+use Rattle.lucy_word.specs.Always.{always, delayed}
 use Rattle.lucy_word.proofs.BitsLaws.{bit_at-prefix, bit_at-period, ones_to-none, ones_to-more, period_some}
 use Rattle.lucy_word.proofs.IndexLaws.{ones_to-periods}
 use Rattle.lucy_word.proofs.SamplingLaws.{ones_to-on}
 use Rattle.lucy_word.proofs.ShortLaws.{same_sym, shortest_one}
+use Rattle.lucy_word.proofs.DelayLaws.{delayed_count, delayed_word}
 use Rattle.lucy_word.proofs.OnLaws.{always_count, on_always, on_some}
 use Rattle.lucy_word.proofs.AdaptableLaws.{SameRate-from_close}
 use Rattle.lucy_need.specs.Meeting.{Assignment, MeetsAll}
 use Rattle.lucy_clock.specs.WellClocked.{KeepsBound}
-use Rattle.lucy_clock.specs.Listing.{delayed, bound_needs}
-
--- zeros, then ones
-pub zeros_more : (n : ℕ) → replicate (n + 1) false ≡ replicate n false ++ false ∷ []
-zeros_more n = ap (λ k. replicate k false) (add-one n) ∙ more n
-  where
-    more : (k : ℕ) → replicate (suc k) false ≡ replicate k false ++ false ∷ []
-    more zero = refl
-    more (suc k) = ap (λ t. false ∷ t) (more k)
-
-delayed_before : (n i : ℕ) → 0 < i → i ≤ n → bit_at (delayed n) i ≡ false
-delayed_before n i some h =
-    let l = length-replicate n false in
-    bit_at-prefix (delayed n) i (omega arith) ∙ get_or-replicate n (i - 1) false false (omega arith)
-
-delayed_behind : (n i : ℕ) → n < i → bit_at (delayed n) i ≡ true
-delayed_behind n i h =
-    let l = length-replicate n false in
-    bit_at-period (delayed n) i (omega arith)
-    ∙ ap (λ k. get_or (true ∷ []) k false) (let e : (i - length (delayed n).prefix - 1) % length (true ∷ []) ≡ 0 = omega arith in e)
-
--- all ones but the first so many instants
-delayed_count : (n i : ℕ) → ones_to (delayed n) i ≡ i - n
-delayed_count n zero = omega (arith, ones_to-none (delayed n))
-delayed_count n (suc i) =
-    let e : ones_to (delayed n) (suc i) ≡ ones_to (delayed n) (i + 1) = ap (ones_to (delayed n)) (omega arith) in
-    elim (cases_lt i n) [
-      | inl before ↦ omega (arith, e, delayed_count n i, ones_to-more (delayed n) i, ap one_if (delayed_before n (i + 1) (omega arith) (omega arith)))
-      | inr behind ↦ omega (arith, e, delayed_count n i, ones_to-more (delayed n) i, ap one_if (delayed_behind n (i + 1) (omega arith)))
-    ]
-
-delayed_word : (n : ℕ) → IsWord (delayed n)
-delayed_word n = record { has_one = omega arith }
-
-delayed_shortest : (n : ℕ) → IsShortest (delayed n)
-delayed_shortest n = record {
-  period = λ v some same. omega (arith, some);
-  prefix = λ v len same.
-      elim (cases_lt (length v.prefix) n) [
-        | inr long ↦ (let l = length-replicate n false in omega arith)
-        | inl short ↦
-            let one : length v.period ≡ 1 = len in
-            let at : (i : ℕ) → length v.prefix < i → bit_at v i ≡ get_or v.period 0 false = λ i h.
-            bit_at-period v i h ∙ ap (λ k. get_or v.period k false) (let m = mod-lt (i - length v.prefix - 1) (let s : 0 < length v.period = omega arith in s) in omega (arith, m)) in
-            let clash : false ≡ true = sym (delayed_before n n (omega arith) (omega arith)) ∙ sym (same n (omega arith)) ∙ at n short ∙ sym (at (n + 1) (omega arith)) ∙ same (n + 1) (omega arith) ∙ delayed_behind n (n + 1) (omega arith) in
-            absurd (cc)
-      ];
-}
-
--- what is made of them is as they were given
-pub delayed_only : (n : ℕ) (bits w : Bits) → bits ≡ delayed n → IsMade bits w → w ≡ delayed n
-delayed_only n bits w e made =
-    shortest_one w (delayed n) made.form.shortest (delayed_shortest n) made.form.nonempty (omega arith) (same_sym (delayed n) w (subst (λ b. Same b w) e made.form.same))
+use Rattle.lucy_clock.specs.Listing.{bound_needs}
 
 -- the greatest lead of a over b up to an instant
 record Leads (a b : Bits) (n size : ℕ) : Type 0 where

@@ -1,10 +1,11 @@
 -- Laws of needs whose words are lent.
-use Rattle.std.proofs.Common.{ℕ, ◌+◌, ◌<◌, ◌≡◌, ◌∷◌, ◌++◌, [], Bool, true, false, List, length, get_or, take, map, ap, sym, refl, ◌∙◌, append_assoc, length-append, subst, inl, inr, arith}
-use Rattle.std.specs.Prelude.{if◌then◌else◌, IfErr, IsErrAnd, OnOk, Result}
-use Rattle.std.proofs.lemmas.Result.{err_from_is_err_and, on_ok_weaker}
-use Rattle.std.proofs.lemmas.List.{map-append, take_more}
+use Rattle.std.proofs.Common.{ℕ, ◌+◌, ◌<◌, ◌≡◌, ◌∷◌, ◌++◌, [], Bool, true, false, List, length, get_or, take, map, ap, refl, ◌∙◌, append_assoc, length-append, subst, inl, inr, arith}
+use Rattle.std.specs.Prelude.{if◌then◌else◌, IfErr, OnOk, Result}
+use Rattle.std.proofs.lemmas.Result.{on_ok_weaker}
+use Rattle.std.proofs.lemmas.List.{map-append}
 use Rattle.std.proofs.lemmas.List.Sums.{sum_by-cons, sum_by-append}
 use Rattle.lucy_word.specs.Bits.{bit_count}
+use Rattle.lucy_word.proofs.Lists.{take_next}
 use Rattle.lucy_need.specs.declared.need.Term.{Term}
 use Rattle.lucy_need.specs.declared.need.Need.{Need}
 use Rattle.lucy_need.specs.declared.need.Need.TheVariants.{Equal, Adapt}
@@ -13,13 +14,6 @@ use Rattle.lucy_clock.specs.declared.error.ClockError.{ClockError}
 use Rattle.lucy_clock.specs.declared.side.Draft.{Draft}
 use Rattle.lucy_clock.specs.Drafts.{side_term, seen, IsPast}
 
--- the error of a call goes out of the function by `?`
-pub leaves : {T : Type 0} (P Q : ClockError → Type 0) (e : ClockError) (r : Result T ClockError) →
-    IsErrAnd r (λ y. y ≡ e) → P e → ((y : ClockError) → P y → Q y) → IfErr r Q
-leaves P Q e r i h f =
-    let p = err_from_is_err_and r i in
-    rw (p.1, p.2) (f e h)
-
 -- how many bits the words of a draft have
 pub seen_bits : (d : Draft) → need_bits (seen d) ≡ bit_count (side_term d.left).word + bit_count (side_term d.right).word
 seen_bits d = of_terms d.adapt (side_term d.left) (side_term d.right)
@@ -27,9 +21,6 @@ seen_bits d = of_terms d.adapt (side_term d.left) (side_term d.right)
     of_terms : (adapt : Bool) (s t : Term) → need_bits (if adapt then Adapt s t else Equal s t) ≡ bit_count s.word + bit_count t.word
     of_terms true s t = refl
     of_terms false s t = refl
-
-take_next : {A : Type 0} (xs : List A) (i : ℕ) (x : A) → i < length xs → x ≡ get_or xs i x → take (i + 1) xs ≡ take i xs ++ x ∷ []
-take_next xs i x h e = take_more xs i x h ∙ ap (λ y. take i xs ++ y ∷ []) (sym e)
 
 pub seen_next : (xs : List Draft) (i : ℕ) (x : Draft) → i < length xs → x ≡ get_or xs i x → map seen (take (i + 1) xs) ≡ map seen (take i xs) ++ seen x ∷ []
 seen_next xs i x h e = ap (map seen) (take_next xs i x h e) ∙ map-append seen (take i xs) (x ∷ [])

@@ -19,6 +19,7 @@ use Rattle.lucy_place.specs.WrittenNodes.{IsWritten}
 use Rattle.lucy_need.specs.Meeting.{Assignment, Agree}
 use Rattle.lucy_word.proofs.OnLaws.{on_same, on_not_same, same_self}
 use Rattle.lucy_word.specs.Always.{always}
+use Rattle.lucy_word.proofs.Lists.{only_one}
 use Rattle.lucy_clock.specs.declared.signature.Signature.{Signature}
 use Rattle.lucy_clock.specs.Clocks.{call_clock, clocks_of}
 use Rattle.lucy_clock.specs.WellClocked.{KeepsRule, IsWellClocked}
@@ -35,10 +36,6 @@ arg_same : (w : Assignment) (p : ℕ) (args : List ℕ) (k q : ℕ) → AllByRec
 arg_same w p [] k q all e = absurd (cc)
 arg_same w p (a ∷ args) zero q all e = subst (λ x. Same (w x) (w p)) (same_Some a q e) (same_sym (w p) (w a) all.0)
 arg_same w p (a ∷ args) (suc k) q all e = arg_same w p args k q all.1 e
-
-pub one_of : (a k q : ℕ) → slice_get (a ∷ []) k ≡ Some q → a ≡ q
-one_of a zero q e = same_Some a q e
-one_of a (suc k) q e = absurd (cc)
 
 -- one number can't be a place with a name and one without
 pub unnamed_named : (n : PlacedNode) (q : ℕ) → IsUnnamed n q → IsNamed n q → ⊥
@@ -61,16 +58,16 @@ module _ (above : List Signature) (n : PlacedNode) (is_written : IsWritten n) (v
   -- where the rules hold, each place without a name has the word that its reader hands down
   kind_hands : (p k q : ℕ) (kind : PlaceKind) → Stands n p kind → KeepsRule v p kind → IsUnnamed n q → slice_get (reads_of n kind) k ≡ Some q → Hands kind k (v p) (v q)
   kind_hands p k q Param stands keeps un e = absurd (cc)
-  kind_hands p k q (Defined x) stands keeps un e = subst (λ y. Same (v y) (v p)) (one_of x k q e) (same_sym (v p) (v x) keeps)
+  kind_hands p k q (Defined x) stands keeps un e = subst (λ y. Same (v y) (v p)) (only_one x k q e) (same_sym (v p) (v x) keeps)
   kind_hands p k q (Lit l) stands keeps un e = absurd (cc)
   kind_hands p k q (Op op args) stands keeps un e = arg_same v p args k q keeps e
   kind_hands p zero q (Host op a b) stands keeps un e = subst (λ y. Same (v y) (v p)) (same_Some a q e) (same_sym (v p) (v a) keeps.0)
-  kind_hands p (suc k) q (Host op a b) stands keeps un e = subst (λ y. Same (v y) (v p)) (one_of b k q e) (same_sym (v p) (v b) keeps.1)
-  kind_hands p k q (When x word) stands keeps un e = absurd (unnamed_named n q un (subst (IsNamed n) (one_of x k q e) (is_written.sampled p x word stands)))
+  kind_hands p (suc k) q (Host op a b) stands keeps un e = subst (λ y. Same (v y) (v p)) (only_one b k q e) (same_sym (v p) (v b) keeps.1)
+  kind_hands p k q (When x word) stands keeps un e = absurd (unnamed_named n q un (subst (IsNamed n) (only_one x k q e) (is_written.sampled p x word stands)))
   kind_hands p zero q (Merge word a b) stands keeps un e = subst (λ y. IsOn (v p) word (v y)) (same_Some a q e) keeps.0
-  kind_hands p (suc k) q (Merge word a b) stands keeps un e = subst (λ y. IsOnNot (v p) word (v y)) (one_of b k q e) keeps.1
-  kind_hands p k q (Fby l x) stands keeps un e = subst (λ y. Same (v y) (v p)) (one_of x k q e) (same_sym (v p) (v x) keeps)
-  kind_hands p k q (Buffer number x) stands keeps un e = absurd (unnamed_named n q un (subst (IsNamed n) (one_of x k q e) (is_written.buffered p number x stands)))
+  kind_hands p (suc k) q (Merge word a b) stands keeps un e = subst (λ y. IsOnNot (v p) word (v y)) (only_one b k q e) keeps.1
+  kind_hands p k q (Fby l x) stands keeps un e = subst (λ y. Same (v y) (v p)) (only_one x k q e) (same_sym (v p) (v x) keeps)
+  kind_hands p k q (Buffer number x) stands keeps un e = absurd (unnamed_named n q un (subst (IsNamed n) (only_one x k q e) (is_written.buffered p number x stands)))
   kind_hands p k q (Result call zero) stands keeps un e = absurd (unnamed_named n q un (call_args_named call k q (at_one n.calls call) refl e))
   kind_hands p k q (Result call (suc j)) stands keeps un e = absurd (cc)
 

@@ -9,8 +9,9 @@ use Rattle.lucy_place.specs.declared.entry.PlaceKind.{PlaceKind}
 use Rattle.lucy_place.specs.declared.entry.PlaceKind.TheVariants.{Merge}
 use Rattle.lucy_place.specs.declared.placed.PlacedNode.{PlacedNode}
 use Rattle.lucy_place.specs.Proper.{at_one, Reads, IsUnnamed}
+use Rattle.lucy_place.proofs.NodeLaws.{at_one_within}
 use Rattle.lucy_clock.specs.Reading.{AreReadersUpto, AsksFor, IsAskedFor, MarksLast, CanHandDown}
-use Rattle.lucy_clock.proofs.ReaderLaws.{one_bounds, one_read, reader_bounds}
+use Rattle.lucy_clock.proofs.ReaderLaws.{one_read, reader_bounds}
 
 -- what is no merge asks for its word for the sake of a place further on, and whatever has such a place asks for it
 pub asks_other : (kind : PlaceKind) (last : ℕ) → ((word : Bits) (a b : ℕ) → kind ≡ Merge word a b → ⊥) → AsksFor kind last → 0 < last
@@ -82,7 +83,7 @@ lasts_more n readers are place entry old new here before m p k q l un asked read
       let stands : entry ≡ un.0 = same_Some entry un.0 (sym here ∙ ap (at_one n.places) (sym same) ∙ un.1) in
       let none : entry.name ≡ None = ap (λ (x : PlaceEntry). x.name) stands ∙ un.2 in
       let reader : slice_index readers (place - 1) ≡ p =
-      ap (λ j. slice_index readers (j - 1)) (sym same) ∙ are p k q (one_bounds n.places p reads.entry reads.stands).1 un reads in
+      ap (λ j. slice_index readers (j - 1)) (sym same) ∙ are p k q (at_one_within n.places p reads.entry reads.stands).1 un reads in
       let marked : place ≤ slice_index new (p - 1) = subst (λ r. place ≤ slice_index new (r - 1)) reader (m.here none asks) in
       omega (arith, marked, same)
   | inr other ↦

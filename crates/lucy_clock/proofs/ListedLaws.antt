@@ -14,6 +14,7 @@ use Rattle.lucy_clock.specs.Clocks.{AreSignatures, clocks_of}
 use Rattle.lucy_clock.specs.Listing.{no_signature}
 use Rattle.lucy_clock.specs.Drafts.{IsListedCall, IsListedKind, IsListedNode}
 
+-- the number of an element is at most the length
 pub one_within : {A : Type 0} (xs : List A) (p : ℕ) (x : A) → at_one xs p ≡ Some x → p ≤ length xs
 one_within xs zero x e = omega arith
 one_within xs (suc i) x e = let l = slice_get_within xs i x e in omega arith

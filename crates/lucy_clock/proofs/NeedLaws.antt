@@ -13,7 +13,7 @@ use Rattle.lucy_place.specs.declared.placed.PlacedNode.{PlacedNode}
 use Rattle.lucy_word.specs.Complement.{turned}
 use Rattle.lucy_place.specs.Proper.{at_one, bound_of, Stands, IsPlace, IsProperKind, IsProperNode}
 use Rattle.lucy_need.specs.Meeting.{Assignment, AreWordsIn, Meets, MeetsAll}
-use Rattle.lucy_need.proofs.AllLaws.{all_join, all_front, all_back}
+use Rattle.lucy_need.proofs.AllLaws.{all_front, all_back}
 use Rattle.lucy_clock.specs.declared.signature.Signature.{Signature}
 use Rattle.lucy_clock.specs.Clocks.{AreSignatures, call_clock, clocks_of}
 use Rattle.lucy_clock.specs.WellClocked.{KeepsRule, KeepsBound, KeepsCall, IsWellClocked}
@@ -22,6 +22,7 @@ use Rattle.lucy_clock.proofs.BoundLaws.{bound_from, bound_to}
 use Rattle.lucy_clock.proofs.RuleLaws.{base_from, base_to, args_from, args_to}
 use Rattle.lucy_word.specs.Always.{always}
 use Rattle.lucy_word.proofs.OnLaws.{on_not_from, on_not_to}
+use Rattle.lucy_word.proofs.Lists.{all_join}
 use Rattle.lucy_need.proofs.TermLaws.{alone_from, alone_to, on_from, on_to, adapt_from, adapt_to}
 
 -- a written word

@@ -1,7 +1,7 @@
 -- What is known of the reader of a place without a name.
 use Rattle.std.proofs.Common.{ℕ, zero, suc, ◌+◌, ◌-◌, ◌<◌, ◌≤◌, ◌≡◌, List, Some, None, length, get_or, ap, sym, refl, ◌∙◌, subst, inl, inr, arith}
 use Rattle.std.specs.Prelude.{slice_get, slice_index}
-use Rattle.std.proofs.lemmas.Option.{same_Some, slice_get_within, slice_get_read, get_or_from_slice_get}
+use Rattle.std.proofs.lemmas.Option.{same_Some, slice_get_read, get_or_from_slice_get}
 use Rattle.lucy_word.specs.Bits.{Bits}
 use Rattle.lucy_word.specs.Shortest.{Same}
 use Rattle.lucy_word.specs.Stored.{IsStored}
@@ -11,17 +11,14 @@ use Rattle.lucy_place.specs.declared.entry.PlaceKind.{PlaceKind}
 use Rattle.lucy_place.specs.declared.placed.PlacedNode.{PlacedNode}
 use Rattle.lucy_place.specs.Proper.{operands_of, at_one, Reads, IsUnnamed, IsReadOnce, AreReadOnce}
 use Rattle.lucy_place.specs.WrittenNodes.{IsWritten}
+use Rattle.lucy_place.proofs.NodeLaws.{at_one_within}
 use Rattle.lucy_need.specs.Meeting.{Assignment, assigned}
 use Rattle.lucy_clock.specs.HandedDown.{Hands, HandsTooLong}
 use Rattle.lucy_clock.specs.Reading.{IsAmong, AreReadersUpto, AreLabelled, IsNextWord, IsTooLongBefore}
 use Rattle.lucy_clock.proofs.HandLaws.{unnamed_named, named_or}
 use Rattle.lucy_clock.proofs.MarkLaws.{unnamed_among, among_reads}
 
--- a number at which something stands
-pub one_bounds : {A : Type 0} (xs : List A) (p : ℕ) (x : A) → at_one xs p ≡ Some x → (1 ≤ p) × (p ≤ length xs)
-one_bounds xs zero x e = absurd (cc)
-one_bounds xs (suc i) x e = let l = slice_get_within xs i x e in (omega arith, omega arith)
-
+-- what stands at a number that counts from 1
 one_get : {A : Type 0} (xs : List A) (p : ℕ) (x d : A) → at_one xs p ≡ Some x → get_or xs (p - 1) d ≡ x
 one_get xs zero x d e = absurd (cc)
 one_get xs (suc i) x d e = (let s : suc i - 1 ≡ i = omega arith in ap (λ k. get_or xs k d) s) ∙ get_or_from_slice_get xs i x d e
@@ -48,12 +45,12 @@ module _ (n : PlacedNode) (is_written : IsWritten n) (once : AreReadOnce n) (pla
   one = once place un
 
   pub reader_is : slice_index readers (place - 1) ≡ one.reader
-  reader_is = are one.reader one.operand place (one_bounds n.places one.reader one.reads.entry one.reads.stands).1 un one.reads
+  reader_is = are one.reader one.operand place (at_one_within n.places one.reader one.reads.entry one.reads.stands).1 un one.reads
 
   pub reader_bounds : (1 ≤ slice_index readers (place - 1)) × (slice_index readers (place - 1) ≤ length n.places) × (slice_index readers (place - 1) < place) × (1 ≤ place) × (place ≤ length n.places)
   reader_bounds =
-      let b = one_bounds n.places one.reader one.reads.entry one.reads.stands in
-      let c = one_bounds n.places place un.0 un.1 in
+      let b = at_one_within n.places one.reader one.reads.entry one.reads.stands in
+      let c = at_one_within n.places place un.0 un.1 in
       let low = b.0 in
       let high = b.1 in
       let before = one.before in

@@ -12,7 +12,7 @@ use Rattle.lucy_word.specs.Complement.{turned}
 use Rattle.lucy_word.proofs.BitsLaws.{period_some}
 use Rattle.lucy_word.proofs.OnLaws.{on_exists, on_not_from}
 use Rattle.lucy_word.proofs.SamplingLaws.{IsOn-same, IsWord-on}
-use Rattle.lucy_word.proofs.ShortenedLaws.{shortened_is}
+use Rattle.lucy_word.proofs.ShortenedLaws.{shortened_is, length-bits_past}
 use Rattle.lucy_word.proofs.ComplementLaws.{turned_stored}
 use Rattle.lucy_place.specs.declared.entry.PlaceEntry.{PlaceEntry}
 use Rattle.lucy_place.specs.declared.entry.PlaceKind.{PlaceKind}
@@ -34,16 +34,12 @@ least_most f (suc more) n = go (f n) (least_most f more (n + 1))
     go true later = let e : n ≤ n + suc more = omega arith in e
     go false later = let e : least f more (n + 1) ≤ n + suc more = omega (arith, later) in e
 
-length_past : (w : Bits) (i n : ℕ) → length (bits_past w i n) ≡ n
-length_past w i zero = refl
-length_past w i (suc n) = omega (arith, length_past w (i + 1) n)
-
 -- the shortest form has no more bits
 no_longer : (w : Bits) → 0 < length w.period → bit_count (shortened w) ≤ bit_count w
 unfolding shortened
 no_longer w some =
     let form : IsShortForm w (shortened w) = shortened_is w some in
-    let prefix : length (bits_past w 0 (kept_of w)) ≡ kept_of w = length_past w 0 (kept_of w) in
+    let prefix : length (bits_past w 0 (kept_of w)) ≡ kept_of w = length-bits_past w 0 (kept_of w) in
     let kept : kept_of w ≤ 0 + length w.prefix = least_most (λ k. comes_again w k (turn_of w)) (length w.prefix) 0 in
     let period : length (bits_past w (kept_of w) (turn_of w)) ≤ length w.period = form.shortest.period w some form.same in
     omega (arith, prefix, kept, period)

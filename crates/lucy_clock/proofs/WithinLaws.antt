@@ -4,22 +4,20 @@ use Rattle.std.specs.Prelude.{slice_get, slice_index_or}
 use Rattle.std.specs.List.{AllByRecursion}
 use Rattle.std.proofs.lemmas.Option.{slice_get_within, slice_get-get_or}
 use Rattle.lucy_word.specs.Bits.{Bits}
+use Rattle.lucy_word.proofs.Lists.{all_join}
 use Rattle.lucy_place.specs.declared.entry.PlaceEntry.{PlaceEntry}
 use Rattle.lucy_place.specs.declared.entry.PlaceKind.{PlaceKind}
 use Rattle.lucy_place.specs.declared.entry.PlaceKind.TheVariants.{Param, Defined, Lit, Op, Host, When, Merge, Fby, Buffer, Result}
 use Rattle.lucy_place.specs.declared.entry.CallSite.{CallSite}
 use Rattle.lucy_place.specs.declared.placed.PlacedNode.{PlacedNode}
 use Rattle.lucy_place.specs.Proper.{at_one, bound_of, Stands, IsPlace, ArePlaces, IsProperKind, IsProperNode}
+use Rattle.lucy_place.proofs.NodeLaws.{at_one_within}
 use Rattle.lucy_need.specs.declared.need.Need.{Need}
 use Rattle.lucy_need.specs.Meeting.{IsWithin}
-use Rattle.lucy_need.proofs.AllLaws.{all_join}
 use Rattle.lucy_clock.specs.declared.signature.Signature.{Signature}
 use Rattle.lucy_clock.specs.Clocks.{AreSignatures, call_clock, clocks_of}
 use Rattle.lucy_clock.specs.Listing.{word_needs, argument_needs, result_needs, operand_needs, bound_needs, no_signature, site_needs, call_needs, kind_needs, place_needs, needs_from, needs_of}
-
-one_within : {A : Type 0} (xs : List A) (p : ℕ) (x : A) → at_one xs p ≡ Some x → p ≤ length xs
-one_within xs zero x e = omega arith
-one_within xs (suc i) x e = let l = slice_get_within xs i x e in omega arith
+use Rattle.lucy_clock.proofs.ListedLaws.{one_within}
 
 module _ (m : ℕ) where
   abbrev All : List Need → Type 0
@@ -112,3 +110,12 @@ module _ (nodes : List PlacedNode) (above : List Signature) (n : PlacedNode) (pr
       all_join (IsWithin (clocks_of n)) (word_needs (1 + i) entry.word) (kind_needs above n (1 + i) entry.kind)
       (words_within (clocks_of n) (1 + i) entry.word (stands_below (1 + i) entry.kind (entry, here, refl)))
       (kind_within (1 + i) entry.kind (entry, here, refl) (proper.kinds (1 + i) entry here)))
+
+-- a buffer and what it reads are places
+pub buffer_within : (above : List PlacedNode) (n : PlacedNode) (p k e : ℕ) → IsProperNode above n → Stands n p (Buffer k e) → (e < clocks_of n) × (p < clocks_of n)
+buffer_within above n p k e proper stands =
+    let own = at_one_within n.places p stands.0 stands.1 in
+    let kind = subst (λ x. IsProperKind n p x) stands.2 (proper.kinds p stands.0 stands.1) in
+    let read : IsPlace n e = kind.2 in
+    let low = own.1 in
+    let high = read.1 in (omega arith, omega arith)

@@ -1,5 +1,5 @@
 -- Words that are handed down place after place.
-use Rattle.std.proofs.Common.{ℕ, zero, suc, ◌+◌, ◌≤◌, ◌≡◌, List, [], ◌∷◌, ◌++◌, Some, length, ap, sym, ◌∙◌, subst, inl, inr, arith, lit≤}
+use Rattle.std.proofs.Common.{ℕ, zero, suc, ◌+◌, ◌≤◌, ◌≡◌, List, [], ◌∷◌, ◌++◌, Some, length, ap, sym, ◌∙◌, subst, inl, inr, arith}
 use Rattle.std.proofs.lemmas.Bool.{cases_lt}
 use Rattle.std.proofs.lemmas.List.{get_or_append_left, get_or_push, length_push}
 use Rattle.std.proofs.lemmas.Option.{slice_get_within}
@@ -14,14 +14,11 @@ use Rattle.lucy_place.specs.declared.placed.PlacedNode.{PlacedNode}
 use Rattle.lucy_place.specs.Proper.{at_one, Reads, IsUnnamed, AreReadOnce}
 use Rattle.lucy_place.specs.WrittenNodes.{IsWritten}
 use Rattle.lucy_need.specs.Meeting.{Assignment, assigned}
-use Rattle.lucy_word.proofs.OnLaws.{always_word, always_shortest}
-use Rattle.lucy_need.proofs.AllLaws.{all_join}
+use Rattle.lucy_word.proofs.OnLaws.{always_stored}
+use Rattle.lucy_word.proofs.Lists.{all_join}
 use Rattle.lucy_clock.specs.HandedDown.{Hands, HandsTooLong, AreHandedDown, IsWordTooLong}
 use Rattle.lucy_clock.specs.Reading.{AreHandedSoFar, IsNextWord, NextHandsTooLong, IsTooLongBefore}
 use Rattle.lucy_clock.proofs.HandLaws.{handed_one}
-
-always_stored : IsStored always
-always_stored = record { word = always_word; nonempty = omega arith; short = lit≤ tt; shortest = always_shortest }
 
 -- the word of a clock, of words in shortest form
 pub stored_at : (words : List Bits) (c : ℕ) → AllByRecursion IsStored words → IsStored (assigned words c)

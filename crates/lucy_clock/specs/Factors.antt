@@ -2,9 +2,9 @@
 use Rattle.std.specs.Prelude.{◌≤◌}
 use Rattle.std.specs.Coded.{Unit-prop, le_prop}
 use Rattle.lucy_word.specs.Bits.{Bits}
+use Rattle.lucy_word.specs.Always.{delayed}
 use Rattle.lucy_word.specs.Complement.{turned}
 use Rattle.lucy_tree.specs.Shaped.{HasZero, most_bound}
-use Rattle.lucy_clock.specs.Listing.{delayed}
 use Rattle.lucy_clock.specs.declared.side.Factor.{Factor}
 use Rattle.lucy_clock.specs.declared.side.Factor.TheVariants.{Lent, Turned, Delayed}
 

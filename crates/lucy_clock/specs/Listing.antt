@@ -1,6 +1,7 @@
 -- The needs of a node, in order of its places.
-use Rattle.std.specs.Prelude.{ℕ, zero, suc, ◌+◌, ◌<◌, ◌≤◌, ◌≡◌, ◌⊎◌, length, true, false, replicate, List, [], ◌∷◌, ◌++◌, Option, Some, None, slice_index_or}
+use Rattle.std.specs.Prelude.{ℕ, zero, suc, ◌+◌, ◌<◌, ◌≤◌, ◌≡◌, ◌⊎◌, length, List, [], ◌∷◌, ◌++◌, Option, Some, None, slice_index_or}
 use Rattle.lucy_word.specs.Bits.{Bits}
+use Rattle.lucy_word.specs.Always.{delayed}
 use Rattle.lucy_word.specs.Limits.{limit_number}
 use Rattle.lucy_word.specs.declared.limit.Limit.TheVariants as limit
 use Rattle.lucy_place.specs.declared.entry.PlaceEntry.{PlaceEntry}
@@ -54,10 +55,6 @@ call_needs above n place call (suc j) = []
 abbrev pub operand_needs : ℕ → List ℕ → List Need
 operand_needs place [] = []
 operand_needs place (arg ∷ args) = Equal (alone place) (alone arg) ∷ operand_needs place args
-
--- 0^n(1): so many zeros, and then ones for ever
-abbrev pub delayed : ℕ → Bits
-delayed zeros = record { prefix = replicate zeros false; period = true ∷ [] }
 
 -- a written bound, where there is one: the reader's clock is adaptable to the writer's on so many zeros and then ones
 abbrev pub bound_needs : ℕ → ℕ → Option ℕ → List Need

@@ -11,11 +11,11 @@ ghost use Rattle.lucy_clock.specs.NodeClocks.{ports, signatures};
 use crate::node_clock::NodeClock;
 use crate::signature::{Signature, Words};
 use lucy_place::{Placed, PlacedNode};
-use lucy_word::{OutOfMemory, Word};
-use std::alloc::Global;
+use lucy_word::Word;
+use std::alloc::{AllocError, Global};
 
 // Words as a list of one's own.
-fn copies(alloc: Global, words: &[Word]) -> Result<Words, OutOfMemory>
+fn copies(alloc: Global, words: &[Word]) -> Result<Words, AllocError>
     ensures { IfOk result (λ v. v ≡ words.now) }
 {
     let mut list = Vec::new(alloc);
@@ -26,7 +26,7 @@ fn copies(alloc: Global, words: &[Word]) -> Result<Words, OutOfMemory>
 }
 
 // The words of places as a list of one's own.
-fn copies_at(alloc: Global, words: &[Word], places: &[u32]) -> Result<Words, OutOfMemory>
+fn copies_at(alloc: Global, words: &[Word], places: &[u32]) -> Result<Words, AllocError>
     requires { AllByRecursion (λ place. place < length words.now) places.now }
     ensures { IfOk result (λ v. v ≡ map (assigned words.now) places.now) }
 {
@@ -38,7 +38,7 @@ fn copies_at(alloc: Global, words: &[Word], places: &[u32]) -> Result<Words, Out
 }
 
 /// What the callers of a node need of its clocks.
-pub fn ports(alloc: Global, node: &PlacedNode, clock: &NodeClock) -> Result<Signature, OutOfMemory>
+pub fn ports(alloc: Global, node: &PlacedNode, clock: &NodeClock) -> Result<Signature, AllocError>
     requires params { node.now.params < length clock.now.words }
     requires results { AllByRecursion (λ place. place < length clock.now.words) node.now.results }
     ensures { IfOk result (λ s. s ≡ ports node.now clock.now) }
@@ -56,7 +56,7 @@ pub fn signatures(
     placed: &Placed,
     node: u32,
     clocks: &[NodeClock],
-) -> Result<Vec<Signature>, OutOfMemory>
+) -> Result<Vec<Signature>, AllocError>
     requires proper { AreProper placed.now.nodes }
     requires node { node ≤ length placed.now.nodes }
     requires clocks { node ≤ length clocks.now }

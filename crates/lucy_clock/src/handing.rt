@@ -13,9 +13,8 @@ ghost use Rattle.lucy_clock.specs.HandedDown.{Hands, HandsTooLong};
 ghost use Rattle.lucy_clock.specs.Reading.{IsAmong, HasTurned};
 
 use crate::error::ClockError;
-use crate::own_words::{copied, turned};
 use lucy_place::PlaceKind;
-use lucy_word::{Limit, Word, WordError, lcm, on};
+use lucy_word::{Limit, Word, lcm, turned};
 use std::alloc::Global;
 
 // A clock on a word.
@@ -25,10 +24,9 @@ fn sampled(alloc: Global, own: &Word, word: &Word) -> Result<Word, ClockError>
     ensures stored { IfOk result IsStored }
     ensures refused { IfErr result (λ e. (e ≡ err.OutOfMemory) ⊎ ((e ≡ err.Limit lim.Word) × IsOnTooLong own.now word.now)) }
 {
-    match on(alloc, own, word) {
-        Ok(word) => Ok(word),
-        Err(WordError::TooLong) => Err(ClockError::Limit(Limit::Word)),
-        Err(_) => Err(ClockError::OutOfMemory),
+    match lucy_word::sampled(alloc, own, word)? {
+        Some(word) => Ok(word),
+        None => Err(ClockError::Limit(Limit::Word)),
     }
 }
 
@@ -62,7 +60,7 @@ pub(crate) fn handed(
 {
     match kind {
         PlaceKind::Merge(word, one, _) => merged(alloc, word, own, *one == to),
-        _ => copied(alloc, own),
+        _ => Ok(own.copy(alloc)?),
     }
 }
 

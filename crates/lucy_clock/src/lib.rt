@@ -11,6 +11,7 @@
 //! they have too many bits, only those are made that a merge asks for.
 #![tactic(auto)]
 
+mod bits;
 mod callers;
 mod draft;
 mod error;
@@ -19,7 +20,6 @@ mod laws;
 mod listing;
 mod node_clock;
 mod node_needs;
-mod own_words;
 mod reading;
 mod side;
 mod signature;

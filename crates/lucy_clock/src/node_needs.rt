@@ -8,7 +8,6 @@ ghost use Rattle.lucy_place.specs.declared.placed.PlacedNode.{PlacedNode as Node
 ghost use Rattle.lucy_need.specs.Meeting.{all_bits, most_needs, AreProperNeeds};
 ghost use Rattle.lucy_need.specs.Stored.{HasWords};
 ghost use Rattle.lucy_clock.specs.declared.error.ClockError.{ClockError as Fault};
-ghost use Rattle.lucy_clock.specs.declared.error.ClockError.TheVariants as err;
 ghost use Rattle.lucy_clock.specs.Clocks.{AreSignatures, clocks_of};
 ghost use Rattle.lucy_clock.specs.Listing.{needs_of, RefusesNeeds};
 ghost use Rattle.lucy_clock.specs.Drafts.{seen, side_term, IsListedNode};
@@ -16,32 +15,29 @@ ghost use Rattle.lucy_clock.specs.Drafts.{seen, side_term, IsListedNode};
 use crate::draft::Drafts;
 use crate::error::ClockError;
 use crate::listing::{Listing, list_needs};
-use crate::own_words::{copied, delayed, turned};
 use crate::side::{Draft, Factor, Side};
 use crate::signature::Signature;
 use lucy_need::{Need, NeedList, Needs, Term};
 use lucy_place::{Placed, PlacedNode};
-use lucy_word::{Limit, Word};
-use std::alloc::Global;
+use lucy_word::{Limit, Word, delayed, turned};
+use std::alloc::{AllocError, Global};
 
 // The word of a side, as one of its own.
-fn word(alloc: Global, side: &Side<'_>) -> Result<Word, ClockError>
+fn word(alloc: Global, side: &Side<'_>) -> Result<Word, AllocError>
     ensures ok { IfOk result (λ w. w ≡ (side_term side.now).word) }
     ensures stored { IfOk result IsStored }
-    ensures refused { IfErr result (λ e. e ≡ err.OutOfMemory) }
 {
     match side.factor {
-        Factor::Lent(word) => copied(alloc, word),
+        Factor::Lent(word) => word.copy(alloc),
         Factor::Turned(word) => turned(alloc, word),
         Factor::Delayed(zeros) => delayed(alloc, zeros),
     }
 }
 
 // The term of a side.
-fn term(alloc: Global, side: &Side<'_>) -> Result<Term, ClockError>
+fn term(alloc: Global, side: &Side<'_>) -> Result<Term, AllocError>
     ensures ok { IfOk result (λ t. t ≡ side_term side.now) }
     ensures stored { IfOk result (λ t. IsStored t.word) }
-    ensures refused { IfErr result (λ e. e ≡ err.OutOfMemory) }
 {
     Ok(Term {
         clock: side.clock,
@@ -50,10 +46,9 @@ fn term(alloc: Global, side: &Side<'_>) -> Result<Term, ClockError>
 }
 
 // The need of a draft.
-fn need(alloc: Global, draft: &Draft<'_>) -> Result<Need, ClockError>
+fn need(alloc: Global, draft: &Draft<'_>) -> Result<Need, AllocError>
     ensures ok { IfOk result (λ n. n ≡ seen draft.now) }
     ensures words { IfOk result HasWords }
-    ensures refused { IfErr result (λ e. e ≡ err.OutOfMemory) }
 {
     let left = term(alloc, &draft.left)?;
     let right = term(alloc, &draft.right)?;
@@ -65,10 +60,9 @@ fn need(alloc: Global, draft: &Draft<'_>) -> Result<Need, ClockError>
 }
 
 // The needs of drafts.
-fn need_list(alloc: Global, drafts: &[Draft<'_>]) -> Result<Vec<Need>, ClockError>
+fn need_list(alloc: Global, drafts: &[Draft<'_>]) -> Result<Vec<Need>, AllocError>
     ensures ok { IfOk result (λ v. v.items ≡ map seen drafts.now) }
     ensures words { IfOk result (λ v. AllByRecursion HasWords v.items) }
-    ensures refused { IfErr result (λ e. e ≡ err.OutOfMemory) }
 {
     let mut list = Vec::new(alloc);
     'each: for draft in drafts {

@@ -10,9 +10,9 @@ ghost use Rattle.lucy_clock.specs.declared.error.ClockError.TheVariants as err;
 ghost use Rattle.lucy_clock.specs.HandedDown.{Hands, IsWordTooLong};
 ghost use Rattle.lucy_clock.specs.Reading.{CanHandDown, IsAskedFor, AreLasts, AreHandedSoFar, AreFirstWords, AreKept, AreKeptSoFar, AreContinued, HasStoredWord, IsNextWord, IsTooLongBefore, NextHandsTooLong};
 
+use crate::bits::bit_count;
 use crate::error::ClockError;
 use crate::handing::{handed, test_handed};
-use crate::own_words::{bit_count, copied};
 use crate::reading::{asks, lasts};
 use lucy_need::always;
 use lucy_place::{PlaceKind, PlacedNode};
@@ -55,7 +55,7 @@ fn next_word(
 {
     let entry = &node.places.list()[place as usize - 1];
     match &entry.word {
-        Some(word) => copied(alloc, word),
+        Some(word) => Ok(word.copy(alloc)?),
         None => handed_word(alloc, node, readers, words, place),
     }
 }

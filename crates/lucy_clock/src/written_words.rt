@@ -7,19 +7,18 @@ ghost use Rattle.lucy_word.specs.Stored.{IsStored};
 ghost use Rattle.lucy_word.specs.declared.limit.Limit.TheVariants as lim;
 ghost use Rattle.lucy_place.specs.declared.placed.PlacedNode.{PlacedNode as Node};
 ghost use Rattle.lucy_place.specs.WrittenNodes.{IsWritten};
-ghost use Rattle.lucy_clock.specs.declared.error.ClockError.TheVariants as err;
 ghost use Rattle.lucy_clock.specs.Clocks.{clocks_of};
 ghost use Rattle.lucy_clock.specs.HandedDown.{AreWordsOf, IsWordTooLong, RefusesWords};
 ghost use Rattle.lucy_need.specs.Meeting.{word_bits};
 ghost use Rattle.lucy_clock.specs.Reading.{CanHandDown, AreFirstWords, HaveBases, base_words};
 
+use crate::bits::bit_count;
 use crate::error::ClockError;
-use crate::own_words::{bit_count, copied};
 use crate::reading::readers;
 use crate::words::{first_words, test_others};
 use lucy_place::{CallSite, Placed, PlacedNode};
 use lucy_word::{Limit, Word, words_are_stored};
-use std::alloc::Global;
+use std::alloc::{AllocError, Global};
 
 // The word of a call's base.
 fn base_of(site: &CallSite) -> &Word
@@ -37,14 +36,12 @@ fn base_of(site: &CallSite) -> &Word
 }
 
 // Puts the words of the calls' bases behind others.
-fn put_bases(alloc: Global, words: &mut Vec<Word>, sites: &[CallSite]) -> Result<(), ClockError>
+fn put_bases(alloc: Global, words: &mut Vec<Word>, sites: &[CallSite]) -> Result<(), AllocError>
     requires { HaveBases sites.now }
-    ensures ok { OnOk result (words.new.items ≡ words.old.items ++ base_words sites.now) }
-    ensures refused { IfErr result (λ e. e ≡ err.OutOfMemory) }
+    ensures { OnOk result (words.new.items ≡ words.old.items ++ base_words sites.now) }
 {
     'each: for site in sites {
-        let word = copied(alloc, base_of(site))?;
-        words.push(word)?;
+        words.push(base_of(site).copy(alloc)?)?;
     }
     Ok(())
 }

@@ -10,7 +10,6 @@ ghost use Rattle.lucy_command.specs.Seen.{seen, seen_text, canonical, if_full, o
 use crate::texts::Texts;
 use clap::error::ErrorKind;
 use clap::{Arg, ArgMatches, Command, Error};
-use lucy_word::OutOfMemory;
 use std::alloc::{AllocError, Global};
 
 // An option of this name.
@@ -56,12 +55,12 @@ fn text<'a>(matches: &ArgMatches<'a>, name: &str) -> Option<&'a str>
 }
 
 /// The texts that were spelled so.
-pub(crate) fn texts_in(alloc: Global, words: &[String]) -> Result<Texts<'_>, OutOfMemory>
+pub(crate) fn texts_in(alloc: Global, words: &[String]) -> Result<Texts<'_>, AllocError>
     ensures { (t : parts.Texts) → AreFull t → map string_bytes words.now ≡ canonical t → IfOk result (λ found. seen found ≡ t) }
 {
     let matches = match matches_of(alloc, words) {
         Ok(matches) => matches,
-        Err(_) => return Err(OutOfMemory),
+        Err(_) => return Err(AllocError),
     };
     Ok(Texts {
         scale: text(&matches, "scale"),

@@ -11,8 +11,7 @@ use crate::matching::texts_in;
 use crate::names::{Name, name_of};
 use crate::spelling::spell;
 use crate::texts::Texts;
-use lucy_word::OutOfMemory;
-use std::alloc::Global;
+use std::alloc::{AllocError, Global};
 
 // The command's name and the texts of the words, where they fit it.
 fn judged(words: &[String]) -> Option<(Name, Texts<'_>)>
@@ -36,7 +35,7 @@ pub fn read<'a>(
     alloc: Global,
     words: &[String],
     spelled: &'a mut Vec<String>,
-) -> Result<Option<Command<'a>>, OutOfMemory>
+) -> Result<Option<Command<'a>>, AllocError>
     requires { spelled.old.items ≡ [] }
     ensures ok { IfOk result (λ command. option_map named command ≡ spec.command_of (map string_bytes words.now)) }
     ensures within { IfOk result (λ command. IfSome command (λ c. IsWithin (named c))) }

@@ -4,8 +4,7 @@ ghost use Rattle.lucy_command.specs.Seen as spec;
 ghost use Rattle.lucy_command.specs.Seen.{seen, seen_text};
 
 use crate::texts::Texts;
-use lucy_word::OutOfMemory;
-use std::alloc::Global;
+use std::alloc::{AllocError, Global};
 
 // The text, or the empty one.
 fn or_empty(text: Option<&str>) -> &str
@@ -23,7 +22,7 @@ fn add(
     words: &mut Vec<String>,
     front: &str,
     text: Option<&str>,
-) -> Result<(), OutOfMemory>
+) -> Result<(), AllocError>
     ensures { OnOk result (map string_bytes words.new.items ≡ map string_bytes words.old.items ++ ((front.now ++ spec.or_empty (seen_text text.entry)) ∷ [])) }
 {
     let text = or_empty(text);
@@ -36,7 +35,7 @@ pub(crate) fn spell(
     alloc: Global,
     texts: &Texts<'_>,
     words: &mut Vec<String>,
-) -> Result<(), OutOfMemory>
+) -> Result<(), AllocError>
     requires { words.old.items ≡ [] }
     ensures { OnOk result (map string_bytes words.new.items ≡ spec.canonical (seen texts.now)) }
 {

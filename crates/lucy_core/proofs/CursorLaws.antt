@@ -81,14 +81,16 @@ passes_one passed list done a n m same before now less count =
       done_one = omega arith;
     }
 
-zeros_at : (n a : ℕ) → done_of (replicate n 0) a ≡ 0
+-- nothing is done where all counts are 0
+pub zero_at : (n a : ℕ) → done_of (replicate n 0) a ≡ 0
 unfolding done_of
-zeros_at n a = elim (cases_lt a n) [
+zero_at n a = elim (cases_lt a n) [
   | inl low ↦ get_or-replicate n a 0 0 low
   | inr high ↦ get_or_past (replicate n 0) a 0 (omega (arith, length-replicate {A = ℕ} n 0))
 ]
 
-order_is : (s : Timetable) (n : ℕ) → order_on s n ≡ events_to (events_at s) n
+-- the order of a schedule is its events
+pub order_is : (s : Timetable) (n : ℕ) → order_on s n ≡ events_to (events_at s) n
 unfolding order_on
 order_is s n = refl
 
@@ -98,9 +100,9 @@ first_in s instants n done c e f instant row index = record {
   row = row;
   early = omega arith;
   count = ap length f ∙ sym (ap length e);
-  behind = λ a. omega (arith, ap (λ xs. done_of xs a) f, zeros_at n a);
+  behind = λ a. omega (arith, ap (λ xs. done_of xs a) f, zero_at n a);
   skips = λ d l.
-      let none : (a : ℕ) → none_done a ≡ done_of c.passed.items a = λ a. sym (ap (λ xs. done_of xs a) f ∙ zeros_at n a) in
+      let none : (a : ℕ) → none_done a ≡ done_of c.passed.items a = λ a. sym (ap (λ xs. done_of xs a) f ∙ zero_at n a) in
       let row_over : drop c.index (row_at s c) ≡ [] = ap (λ i. drop i (row_at s c)) index ∙ drop-length (row_at s c) in
       let all : ahead s instants c ≡ later (events_at s) 0 instants =
       ap (λ xs. xs ++ later (events_at s) c.instant (instants - c.instant)) row_over ∙ ap (λ i. later (events_at s) i (instants - i)) instant ∙ ap (later (events_at s) 0) (let m : instants - 0 ≡ instants = omega arith in m) in

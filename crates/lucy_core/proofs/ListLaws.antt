@@ -12,11 +12,6 @@ use Rattle.lucy_net.specs.States.{took_more}
 use Rattle.lucy_net.proofs.OperandLaws.{ring_more, operand_more}
 use Rattle.lucy_core.specs.Seen.{done_of, one_more}
 
-pub get_set_same : {X : Type 0} (xs : List X) (i : ℕ) (y x : X) → slice_get (set xs i y) i ≡ Some x → x ≡ y
-get_set_same [] i y x e = cc
-get_set_same (z ∷ zs) zero y x e = cc
-get_set_same (z ∷ zs) (suc i) y x e = get_set_same zs i y x e
-
 pub get_set_other : {X : Type 0} (xs : List X) (i j : ℕ) (y : X) → (i ≡ j → ⊥) → slice_get (set xs i y) j ≡ slice_get xs j
 get_set_other [] i j y ne = refl
 get_set_other (z ∷ zs) zero zero y ne = absurd (ne refl)

@@ -1,10 +1,11 @@
 -- A core without an event so far.
-use Rattle.std.proofs.Common.{ℕ, suc, zero, ◌+◌, ◌<◌, ◌≡◌, List, [], ◌∷◌, ◌++◌, map, length, set, drop, ap, sym, refl, ◌∙◌, subst, inl, inr, arith}
+use Rattle.std.proofs.Common.{ℕ, ◌+◌, ◌<◌, ◌≡◌, List, [], ◌∷◌, ◌++◌, map, length, set, drop, ap, sym, refl, ◌∙◌, subst, inl, inr, arith}
 use Rattle.std.specs.Prelude.{ℤ, Some, slice_get, slice_index, replicate}
 use Rattle.std.proofs.lemmas.Bool.{cases_eq}
 use Rattle.std.proofs.lemmas.Option.{slice_get_within}
 use Rattle.std.proofs.lemmas.List.{length-set, length-replicate}
 use Rattle.lucy_word.specs.Bits.{ones_to}
+use Rattle.lucy_word.proofs.Lists.{get_set_same, zeros_at}
 use Rattle.lucy_host.specs.declared.kind.HostKind.{HostKind}
 use Rattle.lucy_stream.specs.Forms.{operands}
 use Rattle.lucy_stream.specs.States.{Machine, start, IsSame}
@@ -19,7 +20,7 @@ use Rattle.lucy_net.specs.States.{IsActorState}
 use Rattle.lucy_core.specs.Circles.{HeldItems}
 use Rattle.lucy_core.specs.Seen.{done_of, state_on, first_ring}
 use Rattle.lucy_core.specs.Inside.{HasTray, KeepsState, AreFirst, AreEmpty, HaveTrays, with_tray}
-use Rattle.lucy_core.proofs.ListLaws.{get_set_same, get_set_other, get_push, some_same}
+use Rattle.lucy_core.proofs.ListLaws.{get_set_other, get_push, some_same}
 use Rattle.lucy_core.proofs.SeenLaws.{IsMachineOf}
 
 -- one state more
@@ -87,12 +88,8 @@ pub room_more : (actors : List Actor) (instants : ℕ) (actor : Actor) (trays mo
     ((a n : ℕ) (x : Actor) → slice_get actors a ≡ Some x → x.kind ≡ Output n → n < length trays) → (a n : ℕ) (x : Actor) → slice_get actors a ≡ Some x → x.kind ≡ Output n → n < length more
 room_more actors instants actor trays more same room a n x f k = omega (arith, room a n x f k, ap length same, with_length actor.kind (ones_to actor.firing instants) trays)
 
-zeros_at : (n a : ℕ) → slice_index (replicate n 0) a ≡ 0
-zeros_at zero a = refl
-zeros_at (suc n) zero = refl
-zeros_at (suc n) (suc a) = zeros_at n a
-
-none_of_each : (f : ℕ → List ℤ) (xs : List ℕ) → ((r : ℕ) → f r ≡ []) → map f xs ≡ replicate (length xs) []
+-- as many empty lists as numbers
+pub none_of_each : (f : ℕ → List ℤ) (xs : List ℕ) → ((r : ℕ) → f r ≡ []) → map f xs ≡ replicate (length xs) []
 none_of_each f [] h = refl
 none_of_each f (x ∷ xs) h = ap (λ y. y ∷ map f xs) (h x) ∙ ap (λ ys. [] ∷ ys) (none_of_each f xs h)
 

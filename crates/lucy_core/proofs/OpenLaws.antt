@@ -10,17 +10,17 @@ use Rattle.lucy_stream.specs.Firings.{took_in}
 use Rattle.lucy_stream.specs.Runs.{IsPossible, IsRun, after, none_done, IsWithin, between, first_left}
 use Rattle.lucy_stream.proofs.StuckLaws.{first_left-some}
 use Rattle.lucy_stream.specs.States.{State, held, events, IsSame, IsState, Reaches}
-use Rattle.lucy_stream.specs.Plans.{link_at, GiveBelow, IsOperand, IsRunnable}
+use Rattle.lucy_stream.specs.Plans.{GiveBelow, IsOperand, IsRunnable}
 use Rattle.lucy_stream.proofs.AlikeLaws.{IsRun-same, after-same}
 use Rattle.lucy_stream.proofs.CoverLaws.{once_at}
 use Rattle.lucy_stream.proofs.KahnLaws.{kahn_state_took, kahn_finished_took, kahn_state}
 use Rattle.lucy_net.specs.declared.net.Actor.{Actor}
 use Rattle.lucy_net.specs.Plans.{form_of, task_of}
 use Rattle.lucy_stream.specs.Schedules.{events_to}
-use Rattle.lucy_net.specs.Schedules.{Timetable, events_at}
+use Rattle.lucy_net.specs.Schedules.{events_at}
 use Rattle.lucy_net.proofs.NetLaws.{task_at, plugged}
 use Rattle.lucy_net.proofs.BackLaws.{fed, quotas}
-use Rattle.lucy_core.specs.Seen.{Seen, machine_of, machine_on, order_of, order_on, done_of, state_on, one_more, more_done, stepped, after_picks, CanRun, IsOver, CanMakeCore, IsOutputOf, first_ring, state_of, plan_of, stream_of}
+use Rattle.lucy_core.specs.Seen.{Seen, machine_of, machine_on, order_of, done_of, state_on, one_more, more_done, stepped, after_picks, CanRun, IsOver, CanMakeCore, IsOutputOf, first_ring, state_of, plan_of, stream_of}
 use Rattle.lucy_core.proofs.SeenLaws.{IsMachineOf, state_is, state_done}
 use Rattle.lucy_core.proofs.PickLaws.{done_more, more_after, events_front, events_next}
 use Rattle.lucy_stream.proofs.CountedLaws.{counted_later}
@@ -28,6 +28,7 @@ use Rattle.lucy_stream.proofs.StateLaws.{held-most}
 use Rattle.lucy_stream.proofs.ReachLaws.{converse}
 use Rattle.lucy_stream.proofs.ConverseLaws.{converse-counts}
 use Rattle.lucy_net.specs.declared.net.RingSpec.{RingSpec}
+use Rattle.lucy_core.proofs.CursorLaws.{order_is}
 
 -- what a proof at hand of the whole value needs
 pub record IsSound (seen : Seen) : Type 0 where
@@ -49,10 +50,6 @@ more_joined done (a ∷ xs) ys = more_joined (one_more done a) xs ys
 pub joined_picks : (seen : Seen) (xs ys : List ℕ) → after_picks (after_picks seen xs) ys ≡ after_picks seen (xs ++ ys)
 joined_picks seen xs ys =
     ap (λ ds. record seen { done = ds }) (sym (more_joined seen.done xs ys))
-
-order_is : (schedule : Timetable) (n : ℕ) → order_on schedule n ≡ events_to (events_at schedule) n
-unfolding order_on
-order_is schedule n = refl
 
 static_run : (seen : Seen) → IsSound seen → ((a : ℕ) → done_of seen.done a ≡ 0) → CanRun seen (events_to (events_at seen.schedule) seen.instants)
 static_run seen all zero_there =
@@ -112,8 +109,8 @@ took_all seen givers a number actor all below out over =
     let same : form_of actor.kind ≡ Same = ap form_of out.kind in
     let arity : length actor.takes ≡ operands (form_of actor.kind) = (is.usable a actor out.there).arity in
     let one : operands (form_of actor.kind) ≡ 1 = ap operands same in
-    let to : (link_at (plan_of seen) r).to ≡ a = All-get_or (λ q. (link_at (plan_of seen) q).to ≡ a) actor.takes 0 0 (omega arith) (is.takers a actor out.there) in
-    let task : slice_get (plan_of seen).tasks (link_at (plan_of seen) r).to ≡ Some (task_of seen.instants actor) = ap (slice_get (plan_of seen).tasks) to ∙ task_at seen.net seen.instants a actor out.there in
+    let to : (plan_of seen).to r ≡ a = All-get_or (λ q. (plan_of seen).to q ≡ a) actor.takes 0 0 (omega arith) (is.takers a actor out.there) in
+    let task : slice_get (plan_of seen).tasks ((plan_of seen).to r) ≡ Some (task_of seen.instants actor) = ap (slice_get (plan_of seen).tasks) to ∙ task_at seen.net seen.instants a actor out.there in
     let operand : IsOperand actor.takes 0 r = record { there = omega arith; is = refl; once = once_at actor.takes 0 r (omega arith) refl (is.once a actor out.there r) } in
     let counts : (b : ℕ) → (state_of seen).done b ≡ done_of seen.done b = λ b. state_done (machine_of seen) (order_of seen) seen.done b is.wired is.whole all.within in
     kahn_finished_took (kinds_of seen.operators) seen.inputs (plan_of seen) givers seen.instants (order_of seen) (state_of seen) r 0 (task_of seen.instants actor) (able seen givers all below) is.whole

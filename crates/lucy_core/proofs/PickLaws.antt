@@ -5,6 +5,7 @@ use Rattle.std.proofs.lemmas.Bool.{cases_Bool, cases_eq, cases_lt}
 use Rattle.std.proofs.lemmas.Option.{slice_get_within, slice_get_past, slice_get-get_or}
 use Rattle.std.proofs.lemmas.List.{length-set, take_more}
 use Rattle.lucy_word.specs.Bits.{ones_to}
+use Rattle.lucy_word.proofs.Lists.{take_nil}
 use Rattle.lucy_host.specs.declared.kind.HostKind.{HostKind}
 use Rattle.lucy_stream.specs.Systems.{System}
 use Rattle.lucy_stream.specs.Runs.{IsPossible, IsRun, step, after, IsFinished, first_left}
@@ -91,10 +92,6 @@ stops_at sys d (a ∷ xs) (suc i) l run never =
 
 pub runs_all : (sys : System) (d : ℕ → ℕ) (xs : List ℕ) → IsRun sys d (take (length xs) xs) → run_length sys d xs ≡ length xs
 runs_all sys d xs run = omega (arith, length_within sys d xs, length_longest sys d xs (length xs) (omega arith) run)
-
-take_nil : (i : ℕ) → take {A = ℕ} i [] ≡ []
-take_nil zero = refl
-take_nil (suc i) = refl
 
 -- a front of a run
 pub run_front : (sys : System) (d : ℕ → ℕ) (xs : List ℕ) (i : ℕ) → IsRun sys d xs → IsRun sys d (take i xs)

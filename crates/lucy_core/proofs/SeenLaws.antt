@@ -1,5 +1,5 @@
 -- The machine of a net, and what an event of it changes.
-use Rattle.std.proofs.Common.{ℕ, ◌<◌, ◌≤◌, ◌≡◌, true, List, [], ◌∷◌, ◌++◌, map, length, drop, ap, sym, ◌∙◌, arith}
+use Rattle.std.proofs.Common.{ℕ, ◌<◌, ◌≤◌, ◌≡◌, true, List, [], ◌∷◌, ◌++◌, map, length, drop, ap, sym, ◌∙◌, subst, arith}
 use Rattle.std.specs.Prelude.{ℤ, All, Some, None, slice_get, slice_index_or, count_by}
 use Rattle.std.specs.Option.{option_map}
 use Rattle.std.proofs.lemmas.Option.{slice_get-map}
@@ -14,21 +14,21 @@ use Rattle.lucy_stream.specs.Systems.{RingOp, Takes, Gives, op_at, IsWired, is_t
 use Rattle.lucy_stream.specs.Runs.{IsPossible, IsWhole, IsWithin}
 use Rattle.lucy_stream.specs.States.{Machine, IsLocal, State, held, event, IsSame, IsState}
 use Rattle.lucy_stream.specs.Operations.{ops_of, fired_at}
-use Rattle.lucy_stream.specs.Plans.{Link, task_ops, task_value, times, IsOperand, HasInput}
+use Rattle.lucy_stream.specs.Plans.{task_ops, task_value, times, IsOperand, HasInput}
 use Rattle.lucy_stream.proofs.CountLaws.{count_take-lt, eqb-same, taken-is}
 use Rattle.lucy_stream.proofs.PlanLaws.{IsWired-plan, IsLocal-plan}
 use Rattle.lucy_stream.proofs.TakeCounts.{takes_in_ops}
 use Rattle.lucy_stream.proofs.AlikeLaws.{IsRun-same}
 use Rattle.lucy_stream.proofs.CountedLaws.{within_later, counted_done, counted_state, counted_later}
-use Rattle.lucy_stream.proofs.HoldingLaws.{held_before, took_item, gave_item, held_other, took_other}
+use Rattle.lucy_stream.proofs.HoldingLaws.{held_before, took_item, gave_item, held_other, took_other, takes_not_gives}
 use Rattle.lucy_net.specs.declared.net.Actor.{Actor}
 use Rattle.lucy_net.specs.declared.net.RingSpec.{RingSpec}
 use Rattle.lucy_net.specs.declared.net.Net.{Net}
 use Rattle.lucy_net.specs.declared.kind.ActorKind.TheVariants.{Output}
-use Rattle.lucy_net.specs.Plans.{form_of, task_of, plan, net_system}
+use Rattle.lucy_net.specs.Plans.{form_of, task_of, plan}
 use Rattle.lucy_net.specs.States.{IsUsable}
 use Rattle.lucy_net.specs.Schedules.{Timetable}
-use Rattle.lucy_net.proofs.NetLaws.{task_at, link_is, plugged, usable}
+use Rattle.lucy_net.proofs.NetLaws.{task_at, size_here, planned, plugged, usable}
 use Rattle.lucy_net.proofs.NumberedLaws.{outputs_apart}
 use Rattle.lucy_core.specs.Seen.{machine_on, order_on, done_of, state_on, one_more, CanMakeCore}
 use Rattle.lucy_core.proofs.ListLaws.{one_more_done}
@@ -51,18 +51,18 @@ pub record IsMachineOf (net : Net) (m : Machine) (order : List ℕ) (inputs : Li
 
 pub machine_is : (net : Net) (schedule : Timetable) (inputs : List (List ℤ)) (operators : List Operator) (instants : ℕ) → CanMakeCore net schedule inputs operators instants →
     IsMachineOf net (machine_on net inputs (kinds_of operators) instants) (order_on schedule instants) inputs (kinds_of operators) instants
-unfolding machine_on order_on net_system
+unfolding machine_on order_on
 machine_is net schedule inputs operators instants is = record {
   wired = IsWired-plan (plan net instants) (plugged net instants is.proper);
   local = IsLocal-plan (kinds_of operators) inputs (plan net instants) (plugged net instants is.proper);
-  whole = is.sound instants;
+  whole = subst (λ sys. IsWhole sys (order_on schedule instants)) (sym (planned net instants)) (is.sound instants);
   ops = λ a actor e. ap task_ops (task_at net instants a actor e);
   ops_none = λ a e. ap task_ops (slice_get-map (task_of instants) net.actors a ∙ ap (option_map (task_of instants)) e);
   values = λ a k actor took e. ap (λ t. task_value (kinds_of operators) inputs t k took) (task_at net instants a actor e);
   takers = λ a actor e. (plugged net instants is.proper a (task_of instants actor) (task_at net instants a actor e)).takes;
   once = λ a actor e. (plugged net instants is.proper a (task_of instants actor) (task_at net instants a actor e)).takes_once;
   usable = λ a actor e. usable net a actor is.proper e;
-  sizes = λ r ring e. ap (λ (l : Link). l.size) (link_is net instants r ring e);
+  sizes = size_here net instants;
   fed = is.supplied;
   apart = λ a b n x y e f k l. outputs_apart net.actors a b n x y is.proper.outputs e f k l;
 }
@@ -85,7 +85,8 @@ next_same m order done a wired local whole w l can =
 pub next_within : (m : Machine) (done : List ℕ) (a : ℕ) → IsWithin m.sys (done_of done) → a < length done → IsPossible m.sys (done_of done) a → IsWithin m.sys (done_of (one_more done a))
 next_within m done a w l can = within_later m.sys (done_of done) (done_of (one_more done a)) (a ∷ []) w (can, tt) (λ b. sym (one_more_done done a b l))
 
-held_same : (s t : State) (r : ℕ) → IsSame s t → held s r ≡ held t r
+-- states that are the same hold as much
+pub held_same : (s t : State) (r : ℕ) → IsSame s t → held s r ≡ held t r
 held_same s t r same = ap (λ xs. drop (length xs) (s.gave r)) (same.took r) ∙ ap (drop (length (t.took r))) (same.gave r)
 
 -- what a take changes
@@ -107,10 +108,6 @@ possible_there m s d a h can = (IsRun-same m.sys d s.done (a ∷ []) (λ b. sym 
 takes_one : (op : RingOp) (r q : ℕ) → op ≡ Takes r → op ≡ Takes q → r ≡ q
 takes_one op r q e f = cc
 
-takes_no_give : (op : RingOp) (r q : ℕ) → op ≡ Takes r → op ≡ Gives q → ⊥
-takes_no_give (Takes x) r q e f = cc
-takes_no_give (Gives x) r q e f = cc
-
 gives_one : (op : RingOp) (r q : ℕ) → op ≡ Gives r → op ≡ Gives q → r ≡ q
 gives_one op r q e f = cc
 
@@ -128,7 +125,7 @@ took_from m order done a r wired local whole w l can op =
       took = same.took r ∙ took_item m s a r is here it;
       took_other = λ q ne. same.took q ∙ took_other m s a q (λ (e : op_at m.sys a (s.done a) ≡ Takes q). ne (takes_one (op_at m.sys a (s.done a)) r q it e));
       rest = held_before m s a r is here it ∙ ap (λ xs. item_at (held s r) 0 ∷ xs) (sym (held_same t (event m s a) r same));
-      others = λ q ne. held_same t (event m s a) q same ∙ held_other m s a q (λ (e : op_at m.sys a (s.done a) ≡ Takes q). ne (takes_one (op_at m.sys a (s.done a)) r q it e)) (takes_no_give (op_at m.sys a (s.done a)) r q it);
+      others = λ q ne. held_same t (event m s a) q same ∙ held_other m s a q (λ (e : op_at m.sys a (s.done a) ≡ Takes q). ne (takes_one (op_at m.sys a (s.done a)) r q it e)) (takes_not_gives (op_at m.sys a (s.done a)) r q it);
     }
 
 pub gave_to : (m : Machine) (order done : List ℕ) (a r : ℕ) → IsWired m.sys → IsLocal m → IsWhole m.sys order → IsWithin m.sys (done_of done) → a < length done → IsPossible m.sys (done_of done) a → op_at m.sys a (done_of done a) ≡ Gives r →
@@ -141,9 +138,9 @@ gave_to m order done a r wired local whole w l can op =
     let counts : (b : ℕ) → s.done b ≡ done_of done b = λ b. state_done m order done b wired whole w in
     let it : op_at m.sys a (s.done a) ≡ Gives r = ap (op_at m.sys a) (counts a) ∙ op in
     record {
-      took = λ q. same.took q ∙ took_other m s a q (λ (e : op_at m.sys a (s.done a) ≡ Takes q). takes_no_give (op_at m.sys a (s.done a)) q r e it);
+      took = λ q. same.took q ∙ took_other m s a q (λ (e : op_at m.sys a (s.done a) ≡ Takes q). takes_not_gives (op_at m.sys a (s.done a)) q r e it);
       more = held_same t (event m s a) r same ∙ gave_item m s a r is it ∙ ap (λ k. held s r ++ m.value a k s.took ∷ []) (counts a);
-      others = λ q ne. held_same t (event m s a) q same ∙ held_other m s a q (λ (e : op_at m.sys a (s.done a) ≡ Takes q). takes_no_give (op_at m.sys a (s.done a)) q r e it) (λ (e : op_at m.sys a (s.done a) ≡ Gives q). ne (gives_one (op_at m.sys a (s.done a)) r q it e));
+      others = λ q ne. held_same t (event m s a) q same ∙ held_other m s a q (λ (e : op_at m.sys a (s.done a) ≡ Takes q). takes_not_gives (op_at m.sys a (s.done a)) q r e it) (λ (e : op_at m.sys a (s.done a) ≡ Gives q). ne (gives_one (op_at m.sys a (s.done a)) r q it e));
     }
 
 -- an output has room for the item that it takes

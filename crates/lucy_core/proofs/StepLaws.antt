@@ -6,6 +6,7 @@ use Rattle.std.proofs.lemmas.Option.{slice_get-get_or, get_or_from_slice_get, sl
 use Rattle.std.proofs.lemmas.List.{length-set}
 use Rattle.std.proofs.lemmas.List.Elements.{All-get_or}
 use Rattle.lucy_word.specs.Bits.{ones_to}
+use Rattle.lucy_word.proofs.Lists.{get_set_same}
 use Rattle.lucy_host.specs.declared.kind.HostKind.{HostKind}
 use Rattle.lucy_stream.specs.Items.{item_at}
 use Rattle.lucy_stream.specs.Forms.{Form, Same, operands}
@@ -14,7 +15,7 @@ use Rattle.lucy_stream.specs.Systems.{RingOp, Takes, Gives, op_at, given, taken}
 use Rattle.lucy_stream.specs.Runs.{IsPossible}
 use Rattle.lucy_stream.specs.States.{Machine, held, IsState}
 use Rattle.lucy_stream.specs.Operations.{firing_ops}
-use Rattle.lucy_stream.specs.Plans.{task_ops, IsOperand, HasInput}
+use Rattle.lucy_stream.specs.Plans.{IsOperand, HasInput}
 use Rattle.lucy_stream.proofs.CountLaws.{step-same, step-other, given-same, taken-same}
 use Rattle.lucy_stream.proofs.StateLaws.{held-count}
 use Rattle.lucy_stream.proofs.CoverLaws.{once_at}
@@ -25,7 +26,7 @@ use Rattle.lucy_net.specs.declared.kind.ActorKind.TheVariants.{Input, Lit, Op, H
 use Rattle.lucy_net.specs.declared.net.Actor.{Actor}
 use Rattle.lucy_net.specs.declared.net.Net.{Net}
 use Rattle.lucy_net.specs.declared.state.ActorState.{ActorState}
-use Rattle.lucy_net.specs.Plans.{form_of, task_of}
+use Rattle.lucy_net.specs.Plans.{form_of, actor_ops}
 use Rattle.lucy_net.specs.Moves.{move_of}
 use Rattle.lucy_net.specs.States.{IsActorState, IsNext, operand_at, took_more, HasItem, ReadsInput}
 use Rattle.lucy_net.proofs.FiringLaws.{take_operand}
@@ -38,7 +39,7 @@ use Rattle.lucy_stream.proofs.OperationLaws.{firing_rings}
 use Rattle.lucy_core.specs.Circles.{HeldItems}
 use Rattle.lucy_core.specs.Seen.{done_of, state_on, one_more, first_ring}
 use Rattle.lucy_core.specs.Inside.{no_held, put_out, HasTray, KeepsState}
-use Rattle.lucy_core.proofs.ListLaws.{get_set_same, get_set_other, some_same, one_more_done, map_same, all_of, map_more}
+use Rattle.lucy_core.proofs.ListLaws.{get_set_other, some_same, one_more_done, map_same, all_of, map_more}
 use Rattle.lucy_core.proofs.CountingLaws.{done_few}
 use Rattle.lucy_core.proofs.SeenLaws.{IsMachineOf, state_is, state_done, next_within, TookFrom, GaveTo, took_from, gave_to, took_room}
 
@@ -193,7 +194,7 @@ module _ (net : Net) (m : Machine) (order : List ℕ) (inputs : List (List ℤ))
 
   -- what an actor does next
   pub next_at : (a : ℕ) (actor : Actor) (s : ActorState) (move : Move) → slice_get net.actors a ≡ Some actor → slice_get states a ≡ Some s →
-      ((i n : ℕ) (took : List (List ℤ)) → IsActorState actor i n took s → move ≡ move_of (slice_get (task_ops (Some (task_of i actor))) n)) → move ≡ move_of (slice_get (m.sys.ops a) (done_of done a))
+      ((i n : ℕ) (took : List (List ℤ)) → IsActorState actor i n took s → move ≡ move_of (slice_get (actor_ops i actor) n)) → move ≡ move_of (slice_get (m.sys.ops a) (done_of done a))
   next_at a actor s move e f h =
       h instants (done_of done a) (map (state_on m order done).took actor.takes) (kept.actors a actor s e f) ∙ ap (λ ops. move_of (slice_get ops (done_of done a))) (sym (is.ops a actor e))
 

@@ -3,13 +3,12 @@ ghost use Rattle.std.specs.Prelude.{ℕ, ◌≡◌, ◌↔◌, ◌≤◌, ◌<�
 use crate::circle::Circle;
 use crate::cursor::Cursor;
 use crate::ends::{input_for, put_out};
-use crate::making::{begin, copy_ops};
+use crate::making::begin;
 use crate::steps::{count_ended, count_event};
 use crate::tray::Tray;
 use lucy_host::{Host, Inputs, Ops};
 use lucy_net::{ActorState, Move, Net, Schedule, after_give, after_take, give_value, next_move};
-use lucy_word::OutOfMemory;
-use std::alloc::Global;
+use std::alloc::{AllocError, Global};
 use std::marker::Model;
 
 /// A net with its schedule and inputs, in a state that a run of its events reaches (Kahn 1974; Cohen and others 2006).
@@ -89,11 +88,11 @@ impl Core {
         inputs: Inputs,
         ops: &Ops,
         instants: u64,
-    ) -> Result<Core, OutOfMemory>
+    ) -> Result<Core, AllocError>
         requires { CanMakeCore net schedule inputs ops.now instants }
         ensures { IfOk result (λ core. core ≡ first_seen net schedule inputs ops.now instants) }
     {
-        let ops = copy_ops(alloc, ops)?;
+        let ops = ops.copy(alloc)?;
         let begun = begin(alloc, &net, &schedule, instants)?;
         Ok(Core {
             net,

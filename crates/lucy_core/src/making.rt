@@ -15,7 +15,6 @@ use crate::cursor::Cursor;
 use crate::tray::Tray;
 use lucy_host::Ops;
 use lucy_net::{Actor, ActorKind, ActorState, Net, RingSpec, Schedule, first_state};
-use lucy_word::OutOfMemory;
 use std::alloc::{AllocError, Global};
 
 /// The states of actors that have done nothing.
@@ -57,16 +56,6 @@ pub(crate) fn empty_circles(alloc: Global, rings: &[RingSpec]) -> Result<Vec<Cir
         circles.push(Circle::new(alloc, ring.size as usize + 1)?)?;
     }
     Ok(circles)
-}
-
-/// The same operators in other memory.
-pub(crate) fn copy_ops(alloc: Global, ops: &Ops) -> Result<Ops, OutOfMemory>
-    ensures { IfOk result (λ copy. copy ≡ ops.now) }
-{
-    match ops.copy(alloc) {
-        Ok(copy) => Ok(copy),
-        Err(_) => Err(OutOfMemory),
-    }
 }
 
 // Trays without room.
@@ -142,7 +131,7 @@ pub(crate) fn begin(
     net: &Net,
     schedule: &Schedule,
     instants: u64,
-) -> Result<Beginning, OutOfMemory>
+) -> Result<Beginning, AllocError>
     requires proper { IsProper net.now }
     requires early { instants ≤ limit_number limit.Instants }
     ensures { IfOk result (HasBegun net.now schedule.now instants) }

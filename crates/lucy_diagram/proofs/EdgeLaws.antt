@@ -1,13 +1,13 @@
 -- What is known of the edges of a node as a list.
 use Rattle.std.proofs.Common.{ℕ, zero, suc, ◌+◌, ◌≡◌, ◌<◌, ◌≤◌, Bool, List, [], ◌∷◌, Some, length, refl, sym, ap, ◌∙◌, subst, arith, inl, inr}
 use Rattle.std.specs.Prelude.{slice_get}
-use Rattle.std.proofs.lemmas.Option.{same_Some, slice_get_within}
+use Rattle.std.proofs.lemmas.Option.{same_Some, slice_get_within, none-some}
+use Rattle.lucy_host.proofs.Elements.{get_left, get_right}
 use Rattle.lucy_place.specs.declared.entry.PlaceEntry.{PlaceEntry}
 use Rattle.lucy_place.specs.declared.entry.PlaceKind.TheVariants.{Result}
 use Rattle.lucy_place.specs.declared.placed.PlacedNode.{PlacedNode}
 use Rattle.lucy_place.specs.Standing.{at_one}
 use Rattle.lucy_place.specs.Reads.{arguments_of, reads_of}
-use Rattle.lucy_types.proofs.ListLaws.{none_some, get_left, get_right}
 use Rattle.lucy_diagram.specs.declared.edge.Edge.{Edge}
 use Rattle.lucy_diagram.specs.Diagrams.{is_late, IsEdge, HasEdge, IsBefore, AreEdges}
 use Rattle.lucy_diagram.specs.Drawn.{edge_to, edges_at, edges_from, node_edges}
@@ -15,7 +15,7 @@ use Rattle.lucy_diagram.proofs.ListLaws.{in_one}
 
 -- an edge of a place
 at_is : (late : Bool) (p k : ℕ) (qs : List ℕ) (i : ℕ) (e : Edge) → slice_get (edges_at late p k qs) i ≡ Some e → (q : ℕ) × (slice_get qs i ≡ Some q) × (e ≡ edge_to late p (k + i) q)
-at_is late p k [] i e h = absurd (none_some e h)
+at_is late p k [] i e h = absurd (none-some e h)
 at_is late p k (q ∷ qs) zero e h =
     let z : k ≡ k + 0 = omega arith in
     (q, refl, sym (same_Some (edge_to late p k q) e h) ∙ ap (λ j. edge_to late p j q) z)
@@ -26,7 +26,7 @@ at_is late p k (q ∷ qs) (suc i) e h =
 
 -- what a place reads has an edge
 at_there : (late : Bool) (p k : ℕ) (qs : List ℕ) (i q : ℕ) → slice_get qs i ≡ Some q → slice_get (edges_at late p k qs) i ≡ Some (edge_to late p (k + i) q)
-at_there late p k [] i q h = absurd (none_some q h)
+at_there late p k [] i q h = absurd (none-some q h)
 at_there late p k (x ∷ qs) zero q h =
     let z : k ≡ k + 0 = omega arith in
     ap (λ y. Some (edge_to late p k y)) (same_Some x q h) ∙ ap (λ j. Some (edge_to late p j q)) z
@@ -69,7 +69,7 @@ found_next n p x es e f =
     }
 
 from_is : (n : PlacedNode) (p : ℕ) (es : List PlaceEntry) (i : ℕ) (e : Edge) → slice_get (edges_from n p es) i ≡ Some e → Found n p es e
-from_is n p [] i e h = absurd (none_some e h)
+from_is n p [] i e h = absurd (none-some e h)
 from_is n p (x ∷ es) i e h =
     elim (in_one (edges_at (is_late x.kind) p 0 (reads_of n x.kind)) (edges_from n (p + 1) es) i e h) [
       | inl a ↦ let r = at_is (is_late x.kind) p 0 (reads_of n x.kind) i e a.1 in found_here n p x es i r.0 e r.1 r.2
@@ -91,7 +91,7 @@ here_there n p x entry es s q same r =
 
 from_there : (n : PlacedNode) (p : ℕ) (es : List PlaceEntry) (k : ℕ) (entry : PlaceEntry) (s q : ℕ) → slice_get es k ≡ Some entry → slice_get (reads_of n entry.kind) s ≡ Some q →
     (i : ℕ) × (slice_get (edges_from n p es) i ≡ Some (edge_to (is_late entry.kind) (p + k) s q))
-from_there n p [] k entry s q h r = absurd (none_some entry h)
+from_there n p [] k entry s q h r = absurd (none-some entry h)
 from_there n p (x ∷ es) zero entry s q h r = (s, here_there n p x entry es s q (same_Some x entry h) r)
 from_there n p (x ∷ es) (suc k) entry s q h r =
     let own = edges_at (is_late x.kind) p 0 (reads_of n x.kind) in
@@ -117,7 +117,7 @@ one_here n late p qs es i j e f a b =
     let second : f.to ≡ p + 1 + v.k = v.to in inl (omega arith)
 
 from_order : (n : PlacedNode) (p : ℕ) (es : List PlaceEntry) (i j : ℕ) (e f : Edge) → i < j → slice_get (edges_from n p es) i ≡ Some e → slice_get (edges_from n p es) j ≡ Some f → IsBefore e f
-from_order n p [] i j e f l a b = absurd (none_some e a)
+from_order n p [] i j e f l a b = absurd (none-some e a)
 from_order n p (x ∷ es) i j e f l a b =
     let late = is_late x.kind in
     let qs = reads_of n x.kind in
@@ -147,7 +147,7 @@ edge_is n i e h =
     }
 
 has_edge : (n : PlacedNode) (p k q : ℕ) (entry : PlaceEntry) → at_one n.places p ≡ Some entry → slice_get (reads_of n entry.kind) k ≡ Some q → HasEdge (node_edges n) p k q
-has_edge n zero k q entry h r = absurd (none_some entry h)
+has_edge n zero k q entry h r = absurd (none-some entry h)
 has_edge n (suc m) k q entry h r =
     let f = from_there n 1 n.places m entry k q h r in
     let z : 1 + m ≡ suc m = omega arith in record {

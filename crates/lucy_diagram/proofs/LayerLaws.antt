@@ -6,11 +6,11 @@ use Rattle.std.proofs.lemmas.Bool.{cases_eq, cases_order, cases_Bool, eq-eqb, ne
 use Rattle.std.proofs.lemmas.List.{length-set, get_or-set_same, get_or-set_other, set_comm}
 use Rattle.std.proofs.lemmas.List.Sums.{sum_by-set}
 use Rattle.std.proofs.lemmas.Option.{none-some, same_Some, slice_get_within, get_or_from_slice_get}
+use Rattle.lucy_word.proofs.Lists.{get_set_same, get_set_other}
 use Rattle.lucy_diagram.specs.declared.diagram.Diagram.{Diagram}
 use Rattle.lucy_diagram.specs.declared.layers.ways.Way.{Way}
 use Rattle.lucy_diagram.specs.Layers.{ways_of, spares_of, IsLeft, waits_at, waits_of, behind, reach, least_layer, with_layer, IsSpare, Finds, none, free, spare, OneLayering}
 use Rattle.lucy_diagram.specs.Layering.{is_from, count_to, reached, left_of}
-use Rattle.lucy_diagram.proofs.ListLaws.{set_same, set_there}
 
 abbrev one_if : Bool → ℕ
 one_if b = cond b 1 0
@@ -18,8 +18,8 @@ one_if b = cond b 1 0
 -- a place that is left behind a write was, and is another
 pub left_old : (F : List (Option ℕ)) (p k q : ℕ) → IsLeft (set F p (Some k)) q → (q ≡ p → ⊥) × IsLeft F q
 left_old F p k q left =
-    let ne : q ≡ p → ⊥ = λ e. none-some k (set_same F p (Some k) None (ap (slice_get (set F p (Some k))) (sym e) ∙ left)) in
-    (ne, sym (set_there F p q (Some k) ne) ∙ left)
+    let ne : q ≡ p → ⊥ = λ e. none-some k (get_set_same F p (Some k) None (ap (slice_get (set F p (Some k))) (sym e) ∙ left)) in
+    (ne, sym (get_set_other F p q (Some k) ne) ∙ left)
 
 -- the way of a place, before and after its layer is found
 at_left : (F : List (Option ℕ)) (p : ℕ) (w : Way) → w.from ≡ p → IsLeft F p → get_or F w.from None ≡ None
@@ -96,7 +96,7 @@ takes W S old F p f t = elim t.how [ inl a ↦ free p f t.left a | inr b ↦ spa
 -- one that waits for none may still be taken behind another, and has the same layer
 still_free : (W : List Way) (S : List ℕ) (F : List (Option ℕ)) (p q : ℕ) → (p ≡ q → ⊥) → IsLeft F p → IsLeft F q → waits_of F q W ≡ 0 → Takes W S (with_layer W F p) q
 still_free W S F p q ne one other z = record {
-  left = set_there F p q (Some (least_layer F p W)) (λ e. ne (sym e)) ∙ other;
+  left = get_set_other F p q (Some (least_layer F p W)) (λ e. ne (sym e)) ∙ other;
   how = inl (let s = waits_set W F p (least_layer F p W) q one in omega arith);
 }
 

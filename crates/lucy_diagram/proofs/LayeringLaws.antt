@@ -8,7 +8,9 @@ use Rattle.std.proofs.lemmas.List.{map_push, length-set, length-take, length-rep
 use Rattle.std.proofs.lemmas.List.Elements.{filter_more}
 use Rattle.std.proofs.lemmas.List.Sums.{count_by-le-length}
 use Rattle.std.proofs.lemmas.Option.{none-some, same_Some, slice_get_within, get_or_from_slice_get}
-use Rattle.lucy_types.proofs.ListLaws.{get_there, get_old, get_last, get_push, get_right}
+use Rattle.lucy_word.proofs.Lists.{get_set_other}
+use Rattle.lucy_host.proofs.Elements.{get_there, get_last, get_right}
+use Rattle.lucy_types.proofs.ListLaws.{get_old, get_push}
 use Rattle.lucy_diagram.specs.declared.buffer.DrawnBuffer.{DrawnBuffer}
 use Rattle.lucy_diagram.specs.declared.diagram.Diagram.{Diagram}
 use Rattle.lucy_diagram.specs.declared.layers.ways.Way.{Way}
@@ -16,7 +18,6 @@ use Rattle.lucy_diagram.specs.declared.layers.work.Work.{Work}
 use Rattle.lucy_diagram.specs.Layers.{ways_of, spares_of, gap, IsLeft, IsSpare, Finds, waits_at, waits_of, behind, reach, least_layer, with_layer}
 use Rattle.lucy_diagram.specs.Layers as layers
 use Rattle.lucy_diagram.specs.Layering.{is_from, count_to, reached, left_of, IsLast, AreChained, AreFree, IsFreed, Counts, IsPassing, ArePassed}
-use Rattle.lucy_diagram.proofs.ListLaws.{set_there}
 use Rattle.lucy_diagram.proofs.LayerLaws.{left_old, waits_set, layer_set, left_set, finds_on, finds_left, finds_length}
 
 abbrev one_if : Bool → ℕ
@@ -273,7 +274,7 @@ free_pop F C rest p k f = record {
       let there = get_old rest p i l ∙ at in
       let h = f.are i q there in
       let ne : q ≡ p → ⊥ = λ e. (let o = f.once i (length rest) q there (get_last rest p ∙ ap Some (sym e)) in omega arith) in
-      (h.0, set_there F p q (Some k) ne ∙ h.1, h.2);
+      (h.0, get_set_other F p q (Some k) ne ∙ h.1, h.2);
   all = λ q l left z.
       let o = left_old F p k q left in
       let h = f.all q l o.1 z in

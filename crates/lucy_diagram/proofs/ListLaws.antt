@@ -1,10 +1,12 @@
 -- Lists, element by element.
-use Rattle.std.proofs.Common.{ℕ, zero, suc, ◌+◌, ◌-◌, ◌≡◌, ◌<◌, ◌≤◌, List, [], ◌∷◌, ◌++◌, Some, length, map, take, drop, set, refl, sym, ap, ◌∙◌, subst, append_assoc, arith, inl, inr}
+use Rattle.std.proofs.Common.{ℕ, zero, suc, ◌+◌, ◌-◌, ◌≡◌, ◌<◌, ◌≤◌, List, [], ◌∷◌, ◌++◌, Some, length, map, take, drop, sym, ap, ◌∙◌, subst, append_assoc, arith, inl, inr}
 use Rattle.std.specs.Prelude.{slice_get, flat_map, ◌⊎◌}
 use Rattle.std.specs.List.{range_with_len}
 use Rattle.std.proofs.lemmas.List.{length_push, drop_more, map_push, take_at, take_more}
 use Rattle.std.proofs.lemmas.Option.{slice_get_within, get_or_from_slice_get}
-use Rattle.lucy_types.proofs.ListLaws.{get_push, get_there}
+use Rattle.lucy_word.proofs.Lists.{range_more}
+use Rattle.lucy_host.proofs.Elements.{get_there}
+use Rattle.lucy_types.proofs.ListLaws.{get_push}
 
 -- an element of two lists stands in one of them
 pub in_one : {A : Type 0} (xs ys : List A) (i : ℕ) (x : A) → slice_get (xs ++ ys) i ≡ Some x → ((i < length xs) × (slice_get xs i ≡ Some x)) ⊎ ((j : ℕ) × (i ≡ length xs + j) × (slice_get ys j ≡ Some x))
@@ -24,33 +26,12 @@ each_more P i old new x count before more own = (
       ],
 )
 
--- an element behind a write, there and elsewhere
-pub set_same : {X : Type 0} (xs : List X) (i : ℕ) (y x : X) → slice_get (set xs i y) i ≡ Some x → x ≡ y
-set_same [] i y x e = cc
-set_same (z ∷ zs) zero y x e = cc
-set_same (z ∷ zs) (suc i) y x e = set_same zs i y x e
-
-pub set_there : {X : Type 0} (xs : List X) (i j : ℕ) (y : X) → (j ≡ i → ⊥) → slice_get (set xs i y) j ≡ slice_get xs j
-set_there [] i j y ne = refl
-set_there (z ∷ zs) zero zero y ne = absurd (ne refl)
-set_there (z ∷ zs) zero (suc j) y ne = refl
-set_there (z ∷ zs) (suc i) zero y ne = refl
-set_there (z ∷ zs) (suc i) (suc j) y ne = set_there zs i j y (λ (e : j ≡ i). ne (ap suc e))
-
 -- what an element stands for goes last
 pub flat_more : {X Y : Type 0} (f : X → List Y) (xs : List X) (i : ℕ) (x : X) (old new whole : List Y) → slice_get xs i ≡ Some x → new ≡ old ++ f x →
     old ++ flat_map f (drop i xs) ≡ whole → new ++ flat_map f (drop (i + 1) xs) ≡ whole
 flat_more f xs i x old new whole at more before =
     let rest : drop i xs ≡ x ∷ drop (i + 1) xs = drop_more xs i x (slice_get_within xs i x at) ∙ ap (λ y. y ∷ drop (i + 1) xs) (get_or_from_slice_get xs i x x at) in
     ap (λ l. l ++ flat_map f (drop (i + 1) xs)) more ∙ append_assoc old (f x) (flat_map f (drop (i + 1) xs)) ∙ ap (λ l. old ++ flat_map f l) (sym rest) ∙ before
-
--- a number more behind others
-range_suc : (a n : ℕ) → range_with_len a (suc n) ≡ range_with_len a n ++ (a + n) ∷ []
-range_suc a zero = let e : a ≡ a + 0 = omega arith in ap (λ x. x ∷ []) e
-range_suc a (suc n) = let e : a + 1 + n ≡ a + suc n = omega arith in ap (λ l. a ∷ l) (range_suc (a + 1) n ∙ ap (λ x. range_with_len (a + 1) n ++ x ∷ []) e)
-
-pub range_more : (a n : ℕ) → range_with_len a (n + 1) ≡ range_with_len a n ++ (a + n) ∷ []
-range_more a n = let e : n + 1 ≡ suc n = omega arith in ap (range_with_len a) e ∙ range_suc a n
 
 -- what the next number stands for goes last
 pub mapped_more : {Y : Type 0} (f : ℕ → Y) (number : ℕ) (first old new : List Y) (y : Y) → 1 ≤ number → old ≡ first ++ map f (range_with_len 1 (number - 1)) → new ≡ old ++ y ∷ [] → y ≡ f number →

@@ -5,8 +5,7 @@ ghost use Rattle.lucy_diagram.specs.Diagrams.{IsDrawnBuffer, AreDrawnBuffers};
 
 use lucy_clock::NodeClock;
 use lucy_place::PlacedNode;
-use lucy_word::OutOfMemory;
-use std::alloc::Global;
+use std::alloc::{AllocError, Global};
 
 /// A buffer: its number and its place, each from 1, and its size and its written bound, each in items.
 #[derive(Clone, Copy)]
@@ -64,7 +63,7 @@ pub(crate) fn buffers(
     alloc: Global,
     node: &PlacedNode,
     clock: &NodeClock,
-) -> Result<Vec<DrawnBuffer>, OutOfMemory>
+) -> Result<Vec<DrawnBuffer>, AllocError>
     requires { length clock.now.sizes ≡ length node.now.buffers }
     ensures { IfOk result (λ v. AreDrawnBuffers node.now clock.now v.items) }
 {

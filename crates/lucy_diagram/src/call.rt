@@ -6,8 +6,7 @@ ghost use Rattle.lucy_place.specs.Proper.{IsProperNode};
 ghost use Rattle.lucy_diagram.specs.Diagrams.{IsDrawnCall, AreDrawnCalls};
 
 use lucy_place::{CallSite, Placed, PlacedNode};
-use lucy_word::OutOfMemory;
-use std::alloc::Global;
+use std::alloc::{AllocError, Global};
 
 /// A call: its number, from 1; the node that it calls, from 0; the clock of its base; the place of its first result, from 1, behind
 /// which the others stand, and how many results it has.
@@ -59,7 +58,7 @@ pub(crate) fn calls(
     alloc: Global,
     placed: &Placed,
     node: &PlacedNode,
-) -> Result<Vec<DrawnCall>, OutOfMemory>
+) -> Result<Vec<DrawnCall>, AllocError>
     requires { (i : ℕ) × IsProperNode (take i placed.now.nodes) node.now }
     ensures { IfOk result (λ v. AreDrawnCalls placed.now.nodes node.now v.items) }
 {

@@ -15,8 +15,7 @@ use crate::place::{DrawnPlace, places};
 use lucy_clock::NodeClock;
 use lucy_place::{Placed, PlacedNode};
 use lucy_program::Accepted;
-use lucy_word::OutOfMemory;
-use std::alloc::Global;
+use std::alloc::{AllocError, Global};
 
 /// What a drawing of a node shows: its places, which place reads which, its buffers and its calls, each in order.
 #[derive(Drop)]
@@ -33,7 +32,7 @@ fn drawn(
     placed: &Placed,
     node: &PlacedNode,
     clock: &NodeClock,
-) -> Result<Diagram, OutOfMemory>
+) -> Result<Diagram, AllocError>
     requires proper { (i : ℕ) × IsProperNode (take i placed.now.nodes) node.now }
     requires sizes { length clock.now.sizes ≡ length node.now.buffers }
     ensures places { IfOk result (λ d. d.places.items ≡ drawn_places node.now) }
@@ -62,7 +61,7 @@ fn clock_at(clocks: &[NodeClock], node: u32) -> &NodeClock
 }
 
 /// What a drawing shows of a node of an accepted program, by its number from 0.
-pub fn diagram_of(alloc: Global, accepted: &Accepted, node: u32) -> Result<Diagram, OutOfMemory>
+pub fn diagram_of(alloc: Global, accepted: &Accepted, node: u32) -> Result<Diagram, AllocError>
     requires accepted { (ops : List Operator) × (o : Choices) × (text : List ℕ) × IsAccepted ops o text accepted.now }
     requires node { node < length accepted.now.placed.nodes }
     ensures places { (n : Node) → slice_get accepted.now.placed.nodes node ≡ Some n → IfOk result (λ d. d.places.items ≡ drawn_places n) }

@@ -6,7 +6,6 @@ ghost use Rattle.lucy_diagram.specs.Diagrams.{is_late, AreEdges};
 ghost use Rattle.lucy_diagram.specs.Drawn.{edges_at, node_edges};
 
 use lucy_place::{PlaceKind, PlacedNode};
-use lucy_word::OutOfMemory;
 use std::alloc::{AllocError, Global};
 
 /// That a place reads another, each by its number from 1: as which of its operands, from 0, and whether an item later, as `fby` does.
@@ -95,7 +94,7 @@ fn put_edges(
 }
 
 // The edges of a node as a list: place by place, and for each in the order of its operands.
-fn edge_list(alloc: Global, node: &PlacedNode) -> Result<Vec<Edge>, OutOfMemory>
+fn edge_list(alloc: Global, node: &PlacedNode) -> Result<Vec<Edge>, AllocError>
     requires { length node.now.places ≤ most_places }
     ensures { IfOk result (λ v. v.items ≡ node_edges node.now) }
 {
@@ -107,7 +106,7 @@ fn edge_list(alloc: Global, node: &PlacedNode) -> Result<Vec<Edge>, OutOfMemory>
 }
 
 /// The edges of a node.
-pub(crate) fn edges(alloc: Global, node: &PlacedNode) -> Result<Vec<Edge>, OutOfMemory>
+pub(crate) fn edges(alloc: Global, node: &PlacedNode) -> Result<Vec<Edge>, AllocError>
     requires { length node.now.places ≤ most_places }
     ensures { IfOk result (λ v. AreEdges node.now v.items) }
 {

@@ -9,7 +9,6 @@ mod work;
 
 use crate::buffer::DrawnBuffer;
 use crate::diagram::Diagram;
-use lucy_word::OutOfMemory;
 use std::alloc::{AllocError, Global};
 use ways::{Way, chains_of, from_zero, ways_of};
 use work::Work;
@@ -74,7 +73,7 @@ fn found_of(alloc: Global, ways: &[Way], spares: &[usize], count: usize) -> Resu
 /// The layer of each place of a drawing, in order, from 0: the least that is greater than those of the places that it reads, but for what
 /// is read across an `fby`. Where each place left stands behind another that is left, the first buffer left, or else the first place, stands
 /// behind what is found alone. Results of a call stand no earlier than its first, and in its layer where that alone is read into.
-pub fn layers_of(alloc: Global, diagram: &Diagram) -> Result<Vec<usize>, OutOfMemory>
+pub fn layers_of(alloc: Global, diagram: &Diagram) -> Result<Vec<usize>, AllocError>
     ensures count { IfOk result (λ v. length v.items ≡ length diagram.now.places.items) }
     ensures layers { IfOk result (λ v. AreLayers diagram.now v.items) }
 {

@@ -4,8 +4,7 @@ ghost use Rattle.lucy_place.specs.Standing.{most_places};
 ghost use Rattle.lucy_diagram.specs.Diagrams.{figure_of, drawn_places};
 
 use lucy_place::{PlaceKind, PlacedNode};
-use lucy_word::OutOfMemory;
-use std::alloc::Global;
+use std::alloc::{AllocError, Global};
 
 /// As what a place is drawn.
 #[derive(Clone, Copy)]
@@ -53,7 +52,7 @@ fn figure_of(kind: &PlaceKind) -> Figure
 }
 
 /// The places of a node, in order.
-pub fn places(alloc: Global, node: &PlacedNode) -> Result<Vec<DrawnPlace>, OutOfMemory>
+pub fn places(alloc: Global, node: &PlacedNode) -> Result<Vec<DrawnPlace>, AllocError>
     requires { length node.now.places ≤ most_places }
     ensures { IfOk result (λ v. v.items ≡ drawn_places node.now) }
 {

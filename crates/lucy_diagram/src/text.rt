@@ -10,7 +10,6 @@ ghost use Rattle.lucy_diagram.specs.Drawn.{form_in};
 use lucy_picture::{form_of, put_kind};
 use lucy_place::{CallSite, PlaceEntry, PlaceKind, Placed, PlacedNode};
 use lucy_tree::{Expr, Program};
-use lucy_word::OutOfMemory;
 use std::alloc::{AllocError, Global};
 
 // Puts these bytes last.
@@ -130,7 +129,7 @@ fn put_form(
     kind: &PlaceKind,
     form: Option<&Expr>,
     out: &mut Vec<u8>,
-) -> Result<(), OutOfMemory>
+) -> Result<(), AllocError>
     ensures { OnOk result (out.new.items
         ≡ out.old.items ++ spec.unnamed_text placed.now.nodes node.now kind.now (option_map (λ e. tree_of e.now) form.entry)) }
 {
@@ -150,7 +149,7 @@ fn put_unnamed(
     place: u32,
     kind: &PlaceKind,
     out: &mut Vec<u8>,
-) -> Result<(), OutOfMemory>
+) -> Result<(), AllocError>
     ensures { OnOk result (out.new.items
         ≡ out.old.items ++ spec.unnamed_text placed.now.nodes found.now kind.now (spec.form_there (program_tree program.now) node place)) }
 {
@@ -169,7 +168,7 @@ fn put_entry(
     place: u32,
     entry: &PlaceEntry,
     out: &mut Vec<u8>,
-) -> Result<(), OutOfMemory>
+) -> Result<(), AllocError>
     ensures { OnOk result (out.new.items
         ≡ out.old.items ++ spec.entry_text placed.now.nodes found.now entry.now (spec.form_there (program_tree program.now) node place)) }
 {
@@ -188,7 +187,7 @@ pub fn put_there(
     found: &PlacedNode,
     place: u32,
     out: &mut Vec<u8>,
-) -> Result<(), OutOfMemory>
+) -> Result<(), AllocError>
     ensures { OnOk result (out.new.items ≡ out.old.items ++ spec.place_text (program_tree program.now) placed.now.nodes node found.now place) }
 {
     put(out, format!(in alloc; "#{place}: ")?.as_bytes())?;
@@ -207,7 +206,7 @@ pub fn put_text(
     node: u32,
     place: u32,
     out: &mut Vec<u8>,
-) -> Result<(), OutOfMemory>
+) -> Result<(), AllocError>
     requires { node < length placed.now.nodes }
     ensures { (n : Node) → slice_get placed.now.nodes node ≡ Some n →
         OnOk result (out.new.items ≡ out.old.items ++ spec.place_text (program_tree program.now) placed.now.nodes node n place) }

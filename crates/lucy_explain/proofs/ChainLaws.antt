@@ -4,7 +4,7 @@ use Rattle.std.specs.List.{AllByRecursion}
 use Rattle.std.proofs.lemmas.Int.{ints}
 use Rattle.std.proofs.lemmas.List.{take_more, take_all}
 use Rattle.lucy_solve.specs.declared.diffs.Diff.{Diff}
-use Rattle.lucy_solve.specs.System.{System, Solves, diff_at, value, constants}
+use Rattle.lucy_solve.specs.System.{DifferenceSystem, Solves, diff_at, value, constants}
 use Rattle.lucy_explain.specs.Folds.{HoldsBetween}
 use Rattle.lucy_explain.specs.Chains.{IsChain, ChainSumLaw, LeastLaw}
 use Rattle.lucy_explain.proofs.LineLaws.{sum_from}

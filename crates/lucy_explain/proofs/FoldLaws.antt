@@ -5,7 +5,7 @@ use Rattle.std.proofs.lemmas.List.{append-nil}
 use Rattle.std.proofs.lemmas.List.Elements.{All-same, All-drop}
 use Rattle.lucy_solve.specs.declared.diffs.Diff.{Diff}
 use Rattle.lucy_explain.specs.declared.line.Line.{Line}
-use Rattle.lucy_solve.specs.System.{System}
+use Rattle.lucy_solve.specs.System.{DifferenceSystem}
 use Rattle.lucy_need.specs.declared.need.Needs.{Needs}
 use Rattle.lucy_shape.specs.declared.shape.Shape.{Shape}
 use Rattle.lucy_explain.specs.declared.fold.Folded.{Folded}
@@ -43,7 +43,7 @@ lines_step list streams positions lines rest line told next fold streamed longes
 )
 
 -- a chain is folded as a cycle that is not turned
-pub folded_chain : (needs : Needs) (shape : Shape) (diffs : System) (chain : List ℕ) (told : Folded) (streams found : List ℕ) → AreStreams needs.list needs.clocks streams →
+pub folded_chain : (needs : Needs) (shape : Shape) (diffs : DifferenceSystem) (chain : List ℕ) (told : Folded) (streams found : List ℕ) → AreStreams needs.list needs.clocks streams →
     found ≡ variable_streams needs.clocks streams shape.clocks → told.cycle.items ≡ chain → Fold diffs.list chain told.lines.items → AreOfOneStream found diffs.list chain told.lines.items →
     AreLongest found diffs.list chain told.lines.items → IsFolded needs shape diffs chain told
 folded_chain needs shape diffs chain told streams found are is same fold streamed longest =

@@ -4,19 +4,16 @@ use Rattle.std.specs.List.{fold}
 use Rattle.std.proofs.lemmas.Int.{ints}
 use Rattle.std.proofs.lemmas.Bool.{cases_lt}
 use Rattle.std.proofs.lemmas.List.{take-append-drop}
-use Rattle.std.proofs.lemmas.List.Sums.{fold_more, fold-append}
+use Rattle.std.proofs.lemmas.List.Sums.{fold-append}
 use Rattle.lucy_solve.specs.declared.diffs.Diff.{Diff}
-use Rattle.lucy_solve.specs.System.{System, diff_at, no_diff, IsProper, IsSystem, value, constants, most_constant}
+use Rattle.lucy_solve.specs.System.{DifferenceSystem, diff_at, no_diff, IsProper, IsSystem, value, constants, most_constant}
+use Rattle.lucy_solve.proofs.Chains.{constants_more}
 use Rattle.lucy_explain.specs.declared.line.Line.{Line}
 use Rattle.lucy_explain.specs.Folds.{Folds, HoldsBetween, FollowsLaw, SumLaw}
 use Rattle.lucy_explain.specs.Folded.{IsOfOneStream}
 
-pub constants_more : (list : List Diff) (positions : List ℕ) (k : ℕ) → k < length positions →
-    constants list (take (k + 1) positions) ≡ constants list (take k positions) +ℤ (diff_at list (get_or positions k 0)).most
-constants_more list positions k h = fold_more (λ s i. s +ℤ (diff_at list i).most) (pos 0) positions k 0 h
-
 -- what a line knows that stands for the first k inequalities
-pub record IsFolding (diffs : System) (streams positions : List ℕ) (k : ℕ) (line : Line) : Type 0 where
+pub record IsFolding (diffs : DifferenceSystem) (streams positions : List ℕ) (k : ℕ) (line : Line) : Type 0 where
   pub count : line.count ≡ k
   pub folds : Folds diffs.list positions line
   pub stream : IsOfOneStream streams diffs.list positions line
@@ -25,7 +22,7 @@ pub record IsFolding (diffs : System) (streams positions : List ℕ) (k : ℕ) (
   pub left : line.left < diffs.count
   pub right : line.right < diffs.count
 
-pub folding_one : (s : System) (streams positions : List ℕ) (d : Diff) (line : Line) → 0 < length positions → d ≡ diff_at s.list (get_or positions 0 0) → IsProper s.count d →
+pub folding_one : (s : DifferenceSystem) (streams positions : List ℕ) (d : Diff) (line : Line) → 0 < length positions → d ≡ diff_at s.list (get_or positions 0 0) → IsProper s.count d →
     line.left ≡ d.left → line.right ≡ d.right → line.most ≡ d.most → line.count ≡ 1 → IsFolding s streams positions 1 line
 folding_one s streams positions d line some is proper left right most count =
     let low = proper.low in
@@ -83,7 +80,7 @@ more_stream list streams positions line next f one d is meets within more left c
           (ap at (sym (meets ∙ ap (λ (d : Diff). d.left) here)) ∙ within ∙ to, ap at (sym (ap (λ (d : Diff). d.right) here)) ∙ more ∙ to)
     ]
 
-pub folding_more : (s : System) (streams positions : List ℕ) (k : ℕ) (line next : Line) (d : Diff) → IsFolding s streams positions k line → k < length positions → d ≡ diff_at s.list (get_or positions k 0) →
+pub folding_more : (s : DifferenceSystem) (streams positions : List ℕ) (k : ℕ) (line next : Line) (d : Diff) → IsFolding s streams positions k line → k < length positions → d ≡ diff_at s.list (get_or positions k 0) →
     IsProper s.count d → line.right ≡ d.left → get_or streams line.right 0 ≡ get_or streams line.left 0 → get_or streams d.right 0 ≡ get_or streams line.left 0 →
     next.left ≡ line.left → next.right ≡ d.right → next.most ≡ line.most +ℤ d.most → next.count ≡ line.count + 1 → IsFolding s streams positions (k + 1) next
 folding_more s streams positions k line next d h l is proper meets within more left right most count =
@@ -183,7 +180,7 @@ sums list positions (line ∷ lines) (f, more) =
     omega (arith, ints)
 
 -- a line with the next inequality of a list
-pub folding_step : (s : System) (streams positions : List ℕ) (k : ℕ) (line next : Line) (list : List Diff) → list ≡ s.list → IsSystem s → IsFolding s streams positions k line → k < length positions →
+pub folding_step : (s : DifferenceSystem) (streams positions : List ℕ) (k : ℕ) (line next : Line) (list : List Diff) → list ≡ s.list → IsSystem s → IsFolding s streams positions k line → k < length positions →
     get_or positions k 0 < length s.list → line.right ≡ (diff_at list (get_or positions k 0)).left → get_or streams line.right 0 ≡ get_or streams line.left 0 →
     get_or streams (diff_at list (get_or positions k 0)).right 0 ≡ get_or streams line.left 0 → next.left ≡ line.left → next.right ≡ (diff_at list (get_or positions k 0)).right →
     next.most ≡ line.most +ℤ (diff_at list (get_or positions k 0)).most → next.count ≡ line.count + 1 → IsFolding s streams positions (k + 1) next

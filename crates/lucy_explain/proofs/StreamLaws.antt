@@ -1,5 +1,5 @@
 -- Clocks that are one stream's.
-use Rattle.std.proofs.Common.{below_more, append_assoc, drop-cons, set, ◌^◌, ◌≡◌, ◌==◌, ℕ, ◌+◌, ◌<◌, ◌≤◌, List, [], ◌∷◌, ◌++◌, Some, Bool, false, cond, length, drop, get_or, replicate, zero, suc, sym, ap, ◌∙◌, subst, refl, inl, inr, arith, eq-eqb}
+use Rattle.std.proofs.Common.{below_more, append_assoc, drop-cons, set, ◌^◌, ◌≡◌, ◌==◌, ℕ, ◌+◌, ◌<◌, ◌≤◌, List, [], ◌∷◌, ◌++◌, Some, Bool, false, cond, length, drop, get_or, replicate, suc, sym, ap, ◌∙◌, subst, refl, inl, inr, arith, eq-eqb}
 use Rattle.std.specs.Prelude.{slice_get}
 use Rattle.std.specs.List.{range_with_len, sum_by}
 use Rattle.std.proofs.lemmas.Bool.{cases_eq, cases_lt}
@@ -7,8 +7,10 @@ use Rattle.std.proofs.lemmas.Bool.Decides.{nat_tests}
 use Rattle.std.proofs.lemmas.List.{length-append, length-replicate, get_or-set_same, get_or-set_other, drop_all, append-nil}
 use Rattle.std.proofs.lemmas.List.FromFn.{length-range_with_len, get_or-range_with_len}
 use Rattle.std.proofs.lemmas.List.Sums.{sum_by-cons, get_or-le-sum_by}
+use Rattle.std.proofs.lemmas.Option.{slice_get_within}
 use Rattle.lucy_word.specs.Bits.{Bits}
 use Rattle.lucy_word.specs.Always.{always}
+use Rattle.lucy_word.proofs.Lists.{range_more}
 use Rattle.lucy_need.specs.Meeting.{alone}
 use Rattle.lucy_need.specs.declared.need.Term.{Term}
 use Rattle.lucy_need.specs.declared.need.Need.{Need}
@@ -168,12 +170,6 @@ join_none needs clocks upto need streams h at never = record {
   ];
 }
 
-range_more : (a n : ℕ) → range_with_len a (n + 1) ≡ range_with_len a n ++ (a + n) ∷ []
-range_more a zero = let e : a ≡ a + 0 = omega arith in ap (λ (x : ℕ). x ∷ []) e
-range_more a (suc n) = let e : a + 1 + n ≡ a + suc n = omega arith in
-    let more : suc n + 1 ≡ suc (n + 1) = omega arith in
-    ap (range_with_len a) more ∙ ap (λ (l : List ℕ). a ∷ l) (range_more (a + 1) n ∙ ap (λ (x : ℕ). range_with_len (a + 1) n ++ x ∷ []) e)
-
 -- one number more
 pub numbers_more : (n : ℕ) (list told : List ℕ) → list ≡ range_with_len 0 n → told ≡ list ++ n ∷ [] → told ≡ range_with_len 0 (n + 1)
 numbers_more n list told before is =
@@ -190,17 +186,12 @@ streams_none needs clocks streams is = record {
   tied = λ c d k n lc ld lk got tie. absurd (omega arith);
 }
 
-got_below : (needs : List Need) (k : ℕ) (n : Need) → slice_get needs k ≡ Some n → k < length needs
-got_below [] k n e = absurd (cc)
-got_below (x ∷ needs) zero n e = omega arith
-got_below (x ∷ needs) (suc k) n e = let h = got_below needs k n e in omega (arith, h)
-
 -- all needs are told
 pub streams_all : (needs : List Need) (clocks upto : ℕ) (streams : List ℕ) → AreStreamsOf needs clocks upto streams → length needs ≤ upto → AreStreams needs clocks streams
 streams_all needs clocks upto streams h l = record {
   all = h.all;
   each = h.each;
-  tied = λ c d lc ld t. let k = got_below needs t.0 t.1 t.2 in h.tied c d t.0 t.1 lc ld (omega arith) t.2 t.3;
+  tied = λ c d lc ld t. let k = slice_get_within needs t.0 t.1 t.2 in h.tied c d t.0 t.1 lc ld (omega arith) t.2 t.3;
 }
 
 first_word : Need → Bits

@@ -2,7 +2,7 @@
 -- the earliest, each of these is met with nothing to spare (Plateau 2010).
 use Rattle.std.specs.Prelude.{ℕ, ◌<◌, ◌≡◌, List, [], ◌∷◌, length, ℤ, pos, ◌+ℤ◌, ◌≤ℤ◌}
 use Rattle.lucy_solve.specs.declared.diffs.Diff.{Diff}
-use Rattle.lucy_solve.specs.System.{System, Solves, diff_at, constants, value}
+use Rattle.lucy_solve.specs.System.{DifferenceSystem, Solves, diff_at, constants, value}
 use Rattle.std.specs.List.{AllByRecursion}
 use Rattle.lucy_need.specs.Meeting.{Assignment, MeetsAll}
 use Rattle.lucy_need.specs.Stored.{HasWords}
@@ -24,7 +24,7 @@ ChainSumLaw = (list : List Diff) (from : ℕ) (chain : List ℕ) (to : ℕ) (lat
 
 -- no numbers that solve the inequalities have less at the end of a chain from the origin
 abbrev pub LeastLaw : Type 0
-LeastLaw = (s : System) (chain : List ℕ) (variable : ℕ) (least : ℤ) → IsChain s.list 0 chain variable least →
+LeastLaw = (s : DifferenceSystem) (chain : List ℕ) (variable : ℕ) (least : ℤ) → IsChain s.list 0 chain variable least →
     (values : List ℤ) → Solves s values → least ≤ℤ value values variable
 
 -- the inequalities are those of the needs in the shape, and a chain of them leads from the origin to the variable, by which it stands at

@@ -1,7 +1,7 @@
 -- How a cycle of inequalities is folded.
 use Rattle.std.specs.Prelude.{ℕ, ◌<◌, ◌≤◌, ◌≡◌, List, [], ◌∷◌, ◌++◌, length, take, drop, slice_index, pos, ◌≤ℤ◌}
 use Rattle.lucy_solve.specs.declared.diffs.Diff.{Diff}
-use Rattle.lucy_solve.specs.System.{System, diff_at, most_inequalities}
+use Rattle.lucy_solve.specs.System.{DifferenceSystem, diff_at, most_inequalities}
 use Rattle.lucy_explain.specs.declared.line.Line.{Line}
 use Rattle.lucy_need.specs.declared.need.Needs.{Needs}
 use Rattle.lucy_shape.specs.declared.shape.Shape.{Shape}
@@ -43,7 +43,7 @@ AreLongest streams list positions (line ∷ lines) = IsLongest streams list posi
 
 -- the evidence of needs in a shape, folded: the cycle, begun at another place, and lines that stand for its inequalities, those of one stream
 -- together; the origin has a number that is none of a clock
-pub record IsFolded (needs : Needs) (shape : Shape) (diffs : System) (cycle : List ℕ) (told : Folded) : Type 0 where
+pub record IsFolded (needs : Needs) (shape : Shape) (diffs : DifferenceSystem) (cycle : List ℕ) (told : Folded) : Type 0 where
   pub streams : List ℕ
   pub are : AreStreams needs.list needs.clocks streams
   pub turned : IsTurned cycle told.cycle.items

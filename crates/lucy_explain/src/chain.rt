@@ -5,8 +5,7 @@ ghost use Rattle.lucy_explain.specs.Chains.{IsChain, ChainSumLaw, LeastLaw};
 
 use crate::index::narrow;
 use lucy_solve::{Diff, Diffs};
-use lucy_word::OutOfMemory;
-use std::alloc::Global;
+use std::alloc::{AllocError, Global};
 
 // No inequality.
 const NONE: u32 = u32::MAX;
@@ -31,7 +30,7 @@ struct Leaving {
 }
 
 // Those of a table.
-fn leaving_of(alloc: Global, diffs: &Diffs) -> Result<Leaving, OutOfMemory> {
+fn leaving_of(alloc: Global, diffs: &Diffs) -> Result<Leaving, AllocError> {
     let list = diffs.list();
     let mut last = vec![in alloc; NONE; diffs.count() as usize]?;
     let mut before = vec![in alloc; NONE; list.len()]?;
@@ -61,7 +60,7 @@ fn reach(
     variable: u32,
     parents: &mut [u32],
     reached: &mut Vec<u32>,
-) -> Result<(), OutOfMemory> {
+) -> Result<(), AllocError> {
     let list = diffs.list();
     let mut next = at(&leaving.last, variable as usize);
     for _ in 0..list.len() {
@@ -84,7 +83,7 @@ fn reach_all(
     values: &[i64],
     leaving: &Leaving,
     parents: &mut [u32],
-) -> Result<(), OutOfMemory> {
+) -> Result<(), AllocError> {
     let mut reached = vec![in alloc; 0u32; 1]?;
     for i in 0..diffs.count() as usize {
         let Some(variable) = reached.get(i).copied() else {
@@ -101,13 +100,13 @@ fn put_parents(
     diffs: &Diffs,
     values: &[i64],
     parents: &mut [u32],
-) -> Result<(), OutOfMemory> {
+) -> Result<(), AllocError> {
     let leaving = leaving_of(alloc, diffs)?;
     reach_all(alloc, diffs, values, &leaving, parents)
 }
 
 // For each variable that is reached from the origin the inequality by which it is, those first that fewer lead to.
-fn parents_of(alloc: Global, diffs: &Diffs, values: &[i64]) -> Result<Vec<u32>, OutOfMemory> {
+fn parents_of(alloc: Global, diffs: &Diffs, values: &[i64]) -> Result<Vec<u32>, AllocError> {
     let mut parents = vec![in alloc; NONE; diffs.count() as usize]?;
     put_parents(alloc, diffs, values, &mut parents)?;
     Ok(parents)
@@ -119,7 +118,7 @@ fn path_of(
     diffs: &Diffs,
     parents: &[u32],
     variable: u32,
-) -> Result<Vec<u32>, OutOfMemory> {
+) -> Result<Vec<u32>, AllocError> {
     let list = diffs.list();
     let mut path = Vec::new(alloc);
     let mut variable = variable;
@@ -198,7 +197,7 @@ pub fn chain_to(
     diffs: &Diffs,
     values: &[i64],
     variable: u32,
-) -> Result<Option<Vec<u32>>, OutOfMemory>
+) -> Result<Option<Vec<u32>>, AllocError>
     ensures { IfOk result (λ chain. IfSome chain (λ c. IsChain diffs.now.list 0 c.items variable (value values.now variable))) }
 {
     if variable as usize >= values.len() {

@@ -15,8 +15,7 @@ use lucy_front::{Refusal, accept, refusal_text};
 use lucy_host::Ops;
 use lucy_program::Options;
 use lucy_tree::Span;
-use lucy_word::OutOfMemory;
-use std::alloc::Global;
+use std::alloc::{AllocError, Global};
 
 /// An explanation: the refusal, unless the program is accepted, what is told of it, line by line, and the spans of the text of which is
 /// told, in the order in which they are named, as an editor marks them.
@@ -50,7 +49,7 @@ fn first_line(text: &[u8]) -> &[u8]
 }
 
 // Two texts, one on lines behind the line that the other is.
-fn joined(alloc: Global, first: &[u8], more: &[u8]) -> Result<Vec<u8>, OutOfMemory>
+fn joined(alloc: Global, first: &[u8], more: &[u8]) -> Result<Vec<u8>, AllocError>
     ensures { IfOk result (λ v. v.items ≡ first.now ++ 10 ∷ more.now) }
 {
     let mut text = first.to_vec(alloc)?;
@@ -60,7 +59,7 @@ fn joined(alloc: Global, first: &[u8], more: &[u8]) -> Result<Vec<u8>, OutOfMemo
 }
 
 // The text that begins with a refusal's first line, and has more on lines behind it.
-fn headed(alloc: Global, refusal: &Refusal, more: &[u8]) -> Result<Vec<u8>, OutOfMemory>
+fn headed(alloc: Global, refusal: &Refusal, more: &[u8]) -> Result<Vec<u8>, AllocError>
     requires { IsTellable refusal.now }
     ensures { IfOk result (λ v. BeginsAs refusal.now v.items) }
 {
@@ -74,7 +73,7 @@ fn telling(
     text: &[u8],
     ops: &Ops,
     refusal: &Refusal,
-) -> Result<(Vec<u8>, Vec<Span>), OutOfMemory>
+) -> Result<(Vec<u8>, Vec<Span>), AllocError>
     requires { IsTellable refusal.now }
     ensures begins { IfOk result (λ t. BeginsAs refusal.now t.0.items) }
     ensures spans { IfOk result (λ t. AreWithin (length text.now) t.1.items) }
@@ -86,12 +85,7 @@ fn telling(
 }
 
 // An explanation of a refusal.
-fn refused(
-    alloc: Global,
-    text: &[u8],
-    ops: &Ops,
-    refusal: Refusal,
-) -> Result<Explained, OutOfMemory>
+fn refused(alloc: Global, text: &[u8], ops: &Ops, refusal: Refusal) -> Result<Explained, AllocError>
     requires { IsTellable refusal }
     ensures refusal { IfOk result (λ e. IfSome e.refusal (λ r. r ≡ refusal)) }
     ensures some { IfOk result (λ e. IfNone e.refusal ⊥) }
@@ -106,13 +100,13 @@ fn refused(
         }),
         Err(_) => {
             drop(refusal);
-            Err(OutOfMemory)
+            Err(AllocError)
         }
     }
 }
 
 // What is told of an accepted program.
-fn accepted(alloc: Global) -> Result<Explained, OutOfMemory>
+fn accepted(alloc: Global) -> Result<Explained, AllocError>
     ensures none { IfOk result (λ e. IfSome e.refusal (λ r. ⊥)) }
     ensures spans { IfOk result (λ e. (bytes : ℕ) → AreWithin bytes e.spans.items) }
 {
@@ -132,7 +126,7 @@ pub fn explain(
     text: &[u8],
     ops: &Ops,
     options: &Options,
-) -> Result<Explained, OutOfMemory>
+) -> Result<Explained, AllocError>
     requires { AreOptions options.now }
     ensures accepted { IfOk result (λ e. IfNone e.refusal ((a : Program) × IsAccepted ops.now options.now text.now a)) }
     ensures refused { IfOk result (λ e. IfSome e.refusal (λ r. Refuses ops.now options.now text.now r)) }
@@ -144,7 +138,7 @@ pub fn explain(
             drop(program);
             accepted(alloc)
         }
-        Err(Refusal::OutOfMemory) => Err(OutOfMemory),
+        Err(Refusal::OutOfMemory) => Err(AllocError),
         Err(refusal) => refused(alloc, text, ops, refusal),
     }
 }

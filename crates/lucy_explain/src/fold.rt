@@ -14,8 +14,7 @@ use crate::variables::variable_streams;
 use lucy_need::Needs;
 use lucy_shape::Shape;
 use lucy_solve::{Diff, Diffs};
-use lucy_word::OutOfMemory;
-use std::alloc::Global;
+use std::alloc::{AllocError, Global};
 
 /// A cycle of inequalities, begun where a line begins, and the lines that stand for it in order.
 #[derive(Drop)]
@@ -25,7 +24,7 @@ pub struct Folded {
 }
 
 // The circle, begun at another place.
-fn turned(alloc: Global, cycle: &[u32], start: usize) -> Result<Vec<u32>, OutOfMemory>
+fn turned(alloc: Global, cycle: &[u32], start: usize) -> Result<Vec<u32>, AllocError>
     requires { start ≤ length cycle.now }
     ensures { IfOk result (λ v. v.items ≡ drop start cycle.now ++ take start cycle.now) }
 {
@@ -35,7 +34,7 @@ fn turned(alloc: Global, cycle: &[u32], start: usize) -> Result<Vec<u32>, OutOfM
 }
 
 // The same positions.
-fn copied(alloc: Global, positions: &[u32]) -> Result<Vec<u32>, OutOfMemory>
+fn copied(alloc: Global, positions: &[u32]) -> Result<Vec<u32>, AllocError>
     ensures { IfOk result (λ v. v.items ≡ positions.now) }
 {
     let copy = positions.to_vec(alloc)?;
@@ -57,7 +56,7 @@ pub(crate) fn lines_of(
     diffs: &Diffs,
     streams: &[u32],
     positions: &[u32],
-) -> Result<Vec<Line>, OutOfMemory>
+) -> Result<Vec<Line>, AllocError>
     requires there { All (λ p. p < length diffs.now.list) positions.now }
     requires streams { length streams.now ≡ diffs.now.count }
     ensures fold { IfOk result (λ v. Fold diffs.now.list positions.now v.items) }
@@ -118,7 +117,7 @@ fn fold_cycle(
     diffs: &Diffs,
     streams: &[u32],
     cycle: &[u32],
-) -> Result<Folded, OutOfMemory>
+) -> Result<Folded, AllocError>
     requires there { AreBelow (length diffs.now.list) cycle.now }
     requires streams { length streams.now ≡ diffs.now.count }
     ensures turned { IfOk result (λ f. IsTurned cycle.now f.cycle.items) }
@@ -138,7 +137,7 @@ fn streams_of(
     needs: &Needs,
     shape: &Shape,
     count: u32,
-) -> Result<Vec<u32>, OutOfMemory>
+) -> Result<Vec<u32>, AllocError>
     requires clocks { length shape.now.clocks ≡ needs.now.clocks }
     requires variables { count ≡ variable_count shape.now.clocks }
     ensures are { IfOk result (λ v. (streams : List ℕ) × AreStreams needs.now.list needs.now.clocks streams ×
@@ -158,7 +157,7 @@ pub fn fold_evidence(
     shape: &Shape,
     diffs: &Diffs,
     cycle: &[u32],
-) -> Result<Folded, OutOfMemory>
+) -> Result<Folded, AllocError>
     requires clocks { length shape.now.clocks ≡ needs.now.clocks }
     requires variables { diffs.now.count ≡ variable_count shape.now.clocks }
     requires there { AreBelow (length diffs.now.list) cycle.now }
@@ -176,7 +175,7 @@ pub fn fold_chain(
     shape: &Shape,
     diffs: &Diffs,
     chain: &[u32],
-) -> Result<Folded, OutOfMemory>
+) -> Result<Folded, AllocError>
     requires clocks { length shape.now.clocks ≡ needs.now.clocks }
     requires variables { diffs.now.count ≡ variable_count shape.now.clocks }
     requires there { AreBelow (length diffs.now.list) chain.now }

@@ -11,8 +11,7 @@ use crate::tell::filled;
 use lucy_place::Placed;
 use lucy_program::{Accepted, Options};
 use lucy_tree::Span;
-use lucy_word::OutOfMemory;
-use std::alloc::Global;
+use std::alloc::{AllocError, Global};
 
 /// What is told of a buffer, line by line, and the spans of the text of which is told, in the order in which they are named.
 #[derive(Drop)]
@@ -42,7 +41,7 @@ pub fn why(
     options: &Options,
     node: u32,
     buffer: u32,
-) -> Result<Option<Filling>, OutOfMemory>
+) -> Result<Option<Filling>, AllocError>
     requires options { AreOptions options.now }
     requires accepted { (ops : List Operator) × IsAccepted ops options.now text.now accepted.now }
     requires node { node < length accepted.now.placed.nodes }

@@ -8,8 +8,7 @@ use crate::chain::chain_to;
 use lucy_need::Needs;
 use lucy_shape::{RateFault, Shape, shape_laws, spread};
 use lucy_solve::{Diffs, Outcome, solve};
-use lucy_word::OutOfMemory;
-use std::alloc::Global;
+use std::alloc::{AllocError, Global};
 
 /// Why a position of a clock is as late as it is: of the inequalities of a node those that lead from the beginning to the position. No
 /// clocks of the shape have it earlier.
@@ -32,19 +31,18 @@ struct Solution {
 }
 
 // The inequalities of needs in a shape, where they have a solution.
-fn solved(alloc: Global, needs: &Needs, shape: &Shape) -> Result<Option<Solution>, OutOfMemory>
+fn solved(alloc: Global, needs: &Needs, shape: &Shape) -> Result<Option<Solution>, AllocError>
     requires { IsShapeFor needs.now shape.now }
     ensures { IfOk result (λ found. IfSome found (λ s. s.diffs ≡ system_of needs.now shape.now)) }
 {
     let diffs = match spread(alloc, needs, shape) {
         Ok(diffs) => diffs,
-        Err(RateFault::OutOfMemory) => return Err(OutOfMemory),
+        Err(RateFault::OutOfMemory) => return Err(AllocError),
         Err(RateFault::Limit(_) | RateFault::Unequal(_)) => return Ok(None),
     };
-    match solve(alloc, &diffs) {
-        Ok(Outcome::Earliest(values)) => Ok(Some(Solution { diffs, values })),
-        Ok(Outcome::Cycle(_)) => Ok(None),
-        Err(_) => Err(OutOfMemory),
+    match solve(alloc, &diffs)? {
+        Outcome::Earliest(values) => Ok(Some(Solution { diffs, values })),
+        Outcome::Cycle(_) => Ok(None),
     }
 }
 
@@ -55,7 +53,7 @@ pub fn reason_for(
     needs: &Needs,
     shape: &Shape,
     variable: u32,
-) -> Result<Option<Reason>, OutOfMemory>
+) -> Result<Option<Reason>, AllocError>
     requires { IsShapeFor needs.now shape.now }
     ensures variable { IfOk result (λ found. IfSome found (λ r. r.variable ≡ variable)) }
     ensures reason { IfOk result (λ found. IfSome found (IsReasonFor needs.now shape.now)) }

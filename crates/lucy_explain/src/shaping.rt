@@ -12,8 +12,7 @@ use lucy_need::Needs;
 use lucy_program::{Accepted, Options, accepted_programs_are_clocked};
 use lucy_rates::rates;
 use lucy_shape::{RateFault, Shape};
-use lucy_word::OutOfMemory;
-use std::alloc::Global;
+use std::alloc::{AllocError, Global};
 
 /// Needs with their shape.
 #[derive(Drop)]
@@ -23,7 +22,7 @@ pub(crate) struct Shaped {
 }
 
 // The needs of a node with the printed clocks of the nodes above it.
-fn needs_of(alloc: Global, accepted: &Accepted, node: u32) -> Result<Option<Needs>, OutOfMemory>
+fn needs_of(alloc: Global, accepted: &Accepted, node: u32) -> Result<Option<Needs>, AllocError>
     requires accepted { (ops : List Operator) × (o : Choices) × (text : List ℕ) × IsAccepted ops o text accepted.now }
     requires node { node < length accepted.now.placed.nodes }
     ensures { IfOk result (λ found. IfSome found AreProperNeeds) }
@@ -32,7 +31,7 @@ fn needs_of(alloc: Global, accepted: &Accepted, node: u32) -> Result<Option<Need
     let above = signatures(alloc, &accepted.placed, node, &accepted.clocks)?;
     match needs(alloc, &accepted.placed, node, &above) {
         Ok(needs) => Ok(Some(needs)),
-        Err(ClockError::OutOfMemory) => Err(OutOfMemory),
+        Err(ClockError::OutOfMemory) => Err(AllocError),
         Err(ClockError::Limit(_)) => Ok(None),
     }
 }
@@ -44,7 +43,7 @@ pub(crate) fn shape_node(
     accepted: &Accepted,
     options: &Options,
     node: u32,
-) -> Result<Option<Shaped>, OutOfMemory>
+) -> Result<Option<Shaped>, AllocError>
     requires options { AreOptions options.now }
     requires accepted { (ops : List Operator) × (o : Choices) × (text : List ℕ) × IsAccepted ops o text accepted.now }
     requires node { node < length accepted.now.placed.nodes }
@@ -55,7 +54,7 @@ pub(crate) fn shape_node(
     };
     match rates(alloc, &needs, options.scale, options.lead) {
         Ok(shape) => Ok(Some(Shaped { needs, shape })),
-        Err(RateFault::OutOfMemory) => Err(OutOfMemory),
+        Err(RateFault::OutOfMemory) => Err(AllocError),
         Err(RateFault::Limit(_) | RateFault::Unequal(_)) => Ok(None),
     }
 }

@@ -3,7 +3,6 @@ ghost use Rattle.std.specs.Prelude.{◌≡◌, true, IfOk, OnOk};
 ghost use Rattle.lucy_explain.specs.Spans.{IsWithin, AreWithin};
 
 use lucy_tree::Span;
-use lucy_word::OutOfMemory;
 use std::alloc::{AllocError, Global};
 
 // Whether a span is a part of a text of so many bytes.
@@ -25,7 +24,7 @@ fn push_within(spans: &mut Vec<Span>, span: Span, bytes: usize) -> Result<(), Al
 }
 
 /// Those of these spans that are parts of a text of so many bytes, in order.
-pub(crate) fn within(alloc: Global, spans: &[Span], bytes: usize) -> Result<Vec<Span>, OutOfMemory>
+pub(crate) fn within(alloc: Global, spans: &[Span], bytes: usize) -> Result<Vec<Span>, AllocError>
     ensures { IfOk result (λ v. AreWithin bytes v.items) }
 {
     let mut kept = Vec::new(alloc);

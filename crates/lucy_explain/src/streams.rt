@@ -9,8 +9,8 @@ ghost use Rattle.lucy_explain.specs.Streams.{Ties, AreStreams};
 ghost use Rattle.lucy_explain.specs.Joining.{renamed, AreStreamsOf};
 
 use lucy_need::{Need, Needs, Term, always};
-use lucy_word::{OutOfMemory, Word};
-use std::alloc::Global;
+use lucy_word::Word;
+use std::alloc::{AllocError, Global};
 
 // Whether a term is a clock alone.
 fn is_alone(term: &Term, always: &Word) -> bool
@@ -85,7 +85,7 @@ fn join_need(streams: &mut [u32], always: &Word, need: &Need)
 }
 
 // Each clock by itself.
-fn numbered(alloc: Global, clocks: u32) -> Result<Vec<u32>, OutOfMemory>
+fn numbered(alloc: Global, clocks: u32) -> Result<Vec<u32>, AllocError>
     ensures { IfOk result (λ v. v.items ≡ range_with_len 0 clocks) }
 {
     let mut list = Vec::new(alloc);
@@ -96,7 +96,7 @@ fn numbered(alloc: Global, clocks: u32) -> Result<Vec<u32>, OutOfMemory>
 }
 
 /// For each clock of needs the number of a clock with which it is one stream's, the same for clocks that needs tie.
-pub(crate) fn clock_streams(alloc: Global, needs: &Needs) -> Result<Vec<u32>, OutOfMemory>
+pub(crate) fn clock_streams(alloc: Global, needs: &Needs) -> Result<Vec<u32>, AllocError>
     ensures { IfOk result (λ v. AreStreams needs.now.list needs.now.clocks v.items) }
 {
     let mut streams = numbered(alloc, needs.clocks)?;

@@ -30,20 +30,19 @@ use lucy_place::Placed;
 use lucy_syntax::{SyntaxError, parse};
 use lucy_text::Text;
 use lucy_tree::{Program, Span};
-use lucy_word::OutOfMemory;
 use naming::put_name;
 use page::Page;
 use place::Scene;
 use rates::put_rates;
-use std::alloc::Global;
+use std::alloc::{AllocError, Global};
 use syntax::put_syntax;
 use types::put_clash;
 
 /// The tree of a text, where it has one.
-pub(crate) fn tree_of(alloc: Global, text: &[u8]) -> Result<Option<Program>, OutOfMemory> {
+pub(crate) fn tree_of(alloc: Global, text: &[u8]) -> Result<Option<Program>, AllocError> {
     match parse(alloc, text) {
         Ok(program) => Ok(Some(program)),
-        Err(SyntaxError::OutOfMemory) => Err(OutOfMemory),
+        Err(SyntaxError::OutOfMemory) => Err(AllocError),
         Err(_) => Ok(None),
     }
 }
@@ -63,7 +62,7 @@ pub(crate) fn scene_of<'a>(placed: &'a Placed, program: &'a Option<Program>, nod
 }
 
 // Puts what is told of the fault of a node last.
-fn put_fault(page: &mut Page<'_>, scene: Scene<'_>, fault: &NodeFault) -> Result<(), OutOfMemory>
+fn put_fault(page: &mut Page<'_>, scene: Scene<'_>, fault: &NodeFault) -> Result<(), AllocError>
     requires { IsShown fault.now }
 {
     match fault {
@@ -112,7 +111,7 @@ fn put_refusal(
     ops: &Ops,
     program: &Option<Program>,
     refusal: &Refusal,
-) -> Result<(), OutOfMemory>
+) -> Result<(), AllocError>
     requires { IsTellable refusal.now }
 {
     match refusal {
@@ -139,7 +138,7 @@ pub(crate) fn told(
     text: &[u8],
     ops: &Ops,
     refusal: &Refusal,
-) -> Result<(Vec<u8>, Vec<Span>), OutOfMemory>
+) -> Result<(Vec<u8>, Vec<Span>), AllocError>
     requires { IsTellable refusal.now }
 {
     let program = tree_of(alloc, text)?;

@@ -4,7 +4,6 @@ ghost use Rattle.lucy_shape.specs.Fitting.{position_count, variable_count};
 ghost use Rattle.lucy_explain.specs.Streams as spec;
 
 use lucy_shape::ClockShape;
-use lucy_word::OutOfMemory;
 use std::alloc::{AllocError, Global};
 
 // A stream so many times, put last.
@@ -46,7 +45,7 @@ pub(crate) fn variable_streams(
     streams: &[u32],
     shapes: &[ClockShape],
     count: u32,
-) -> Result<Vec<u32>, OutOfMemory>
+) -> Result<Vec<u32>, AllocError>
     requires clocks { length streams.now ≡ length shapes.now }
     requires count { count ≡ variable_count shapes.now }
     ensures is { IfOk result (λ v. v.items ≡ spec.variable_streams origin streams.now shapes.now) }

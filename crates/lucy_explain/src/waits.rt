@@ -3,8 +3,8 @@ ghost use Rattle.std.specs.Prelude.{◌≡◌, ◌≤◌, length, IfOk, IfSome};
 ghost use Rattle.lucy_picture.specs.Charts.{waiting, IsFirstFull};
 ghost use Rattle.lucy_explain.specs.Waits.{Waits, AreWaits};
 
-use lucy_word::{OutOfMemory, Word};
-use std::alloc::Global;
+use lucy_word::Word;
+use std::alloc::{AllocError, Global};
 
 // How long an item waits, by its number from 1, where its instants have 64 bits and it is read no earlier than it is written.
 fn wait_of(write: &Word, read: &Word, item: u64) -> Option<u64>
@@ -29,7 +29,7 @@ pub fn waits_of(
     write: &Word,
     read: &Word,
     items: u64,
-) -> Result<Vec<u64>, OutOfMemory>
+) -> Result<Vec<u64>, AllocError>
     ensures waits { IfOk result (λ v. AreWaits write.now read.now v.items) }
     ensures few { IfOk result (λ v. length v.items ≤ items) }
 {

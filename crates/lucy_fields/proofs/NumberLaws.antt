@@ -10,12 +10,13 @@ use Rattle.std.proofs.lemmas.Str.{IsUtf8-from_ascii}
 use Rattle.std.proofs.lemmas.Str.Parse.{IsNumeralModel, numerals_by_value, tells_all_ascii_digits, parse_digits}
 use Rattle.lucy_fields.specs.Numbers.{number_of}
 
-own : IsNumeralModel (λ ds. all_ascii_digits ds ≡ true) (digits_value 10)
-own = numerals_by_value _ tells_all_ascii_digits
+-- decimal digits are numerals
+pub numerals : IsNumeralModel (λ ds. all_ascii_digits ds ≡ true) (digits_value 10)
+numerals = numerals_by_value _ tells_all_ascii_digits
 
 -- digits are a text
 pub digits_are_text : (bytes : List ℕ) → all_ascii_digits bytes ≡ true → IsUtf8 bytes
-digits_are_text bytes h = IsUtf8-from_ascii bytes (IsAscii-from_digits bytes (own.to bytes h))
+digits_are_text bytes h = IsUtf8-from_ascii bytes (IsAscii-from_digits bytes (numerals.to bytes h))
 
 -- a number past the greatest one is none
 pub none_past : (digits least most : ℕ) (bytes : List ℕ) → most < digits_value 10 bytes → None ≡ number_of digits least most bytes
@@ -34,5 +35,5 @@ unparsed_past [] r e parses digits some is = cc some
 unparsed_past (b ∷ bytes) r e parses digits some is =
     let v : ℕ = digits_value 10 (b ∷ bytes) in
     let no : OkIff (Err e) ((0 < length (b ∷ bytes)) × (v < 2 ^ 64)) v =
-    subst (λ s. OkIff s ((0 < length (b ∷ bytes)) × (v < 2 ^ 64)) v) is (parse_digits own 64 (b ∷ bytes) r parses digits) in
+    subst (λ s. OkIff s ((0 < length (b ∷ bytes)) × (v < 2 ^ 64)) v) is (parse_digits numerals 64 (b ∷ bytes) r parses digits) in
     elim (cases_lt v (2 ^ 64)) [ inl l ↦ absurd (no (omega arith, l)) | inr l ↦ l ]

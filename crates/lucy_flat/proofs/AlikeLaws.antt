@@ -13,6 +13,7 @@ use Rattle.lucy_word.specs.declared.limit.Limit.TheVariants as limit
 use Rattle.lucy_word.specs.Shortest.{Same, IsShortest}
 use Rattle.lucy_word.specs.Stored.{IsStored}
 use Rattle.lucy_word.specs.Sampling.{IsOn, IsOnTooLong}
+use Rattle.lucy_host.proofs.Elements.{get_there}
 use Rattle.lucy_place.specs.declared.placed.PlacedNode.{PlacedNode}
 use Rattle.lucy_place.specs.declared.entry.CallSite.{CallSite}
 use Rattle.lucy_place.specs.declared.entry.PlaceKind.{PlaceKind}
@@ -22,7 +23,6 @@ use Rattle.lucy_clock.specs.declared.node_clock.NodeClock.{NodeClock}
 use Rattle.lucy_kahn.specs.Spots.{Spot, at, site_in, node_at, kind_at, spot_form, spot_reads}
 use Rattle.lucy_kahn.specs.Numbers.{number, spots_of}
 use Rattle.lucy_kahn.proofs.Parts.{callee_in, kind_in}
-use Rattle.lucy_kahn.proofs.JoinedLists.{there}
 use Rattle.lucy_kahn.proofs.Paths.{proper_at}
 use Rattle.lucy_flat.specs.declared.draft.Draft.{Draft}
 use Rattle.lucy_flat.specs.declared.kept.Kept.{Kept}
@@ -194,8 +194,8 @@ module _ (nodes : List PlacedNode) (clocks : List NodeClock) where
     next_alike path n node begin base caller i places sites words clock old kept is at_node at_clock short sites_are words_are places_are within alike past so =
         let j : ℕ = alike.before in
         let e : i ≡ suc j = alike.next in
-        let before = there sites j (omega (arith, within, e)) in
-        let site = there sites i within in
+        let before = get_there sites j (omega (arith, within, e)) in
+        let site = get_there sites i within in
         let word : (k : ℕ) → word_at nodes clocks path k ≡ slice_index_or words k always = λ k.
         ap (λ m. slice_index_or (words_in (slice_get clocks m)) k always) is.index ∙ ap (λ o. slice_index_or (words_in o) k always) at_clock ∙ ap (λ t. slice_index_or t k always) (sym words_are) in
         let first : length n.places + suc j ≡ places + i = omega (arith, e, places_are) in

@@ -1,39 +1,22 @@
 -- Rings one after another.
 use Rattle.std.proofs.Common.{ℕ, suc, zero, ◌+◌, ◌-◌, ◌<◌, ◌≤◌, ◌≡◌, List, [], ◌∷◌, ◌++◌, Some, length, get_or, take, ap, sym, refl, ◌∙◌, subst, inl, inr, arith, add-one}
 use Rattle.std.specs.Prelude.{sum_by, slice_get, ◌⊎◌}
-use Rattle.std.specs.List.{range_with_len}
 use Rattle.std.proofs.lemmas.List.{length_push}
 use Rattle.std.proofs.lemmas.List.Sums.{sum_by-cons}
 use Rattle.std.proofs.lemmas.Bool.{cases_lt}
 use Rattle.std.proofs.lemmas.Option.{same_Some, slice_get_within}
-use Rattle.std.proofs.Common.{Result, Ok, Err}
-use Rattle.std.specs.Prelude.{IfOk, IfErr, IsErrAnd}
-use Rattle.std.proofs.lemmas.Result.{err_from_is_err_and}
 use Rattle.lucy_word.specs.Bits.{Bits}
 use Rattle.lucy_word.specs.Shortest.{IsShortest}
 use Rattle.lucy_word.specs.Sampling.{IsOn, IsOnTooLong}
 use Rattle.lucy_word.specs.Complement.{turned}
+use Rattle.lucy_word.proofs.Lists.{still_there}
 use Rattle.lucy_net.specs.declared.kind.ActorKind.{ActorKind}
 use Rattle.lucy_net.specs.declared.kind.ActorKind.TheVariants.{Merge}
-use Rattle.lucy_flat.specs.declared.error.FlatError.{FlatError}
 use Rattle.lucy_net.specs.declared.net.RingSpec.{RingSpec}
 use Rattle.lucy_flat.specs.declared.draft.Draft.{Draft}
 use Rattle.lucy_flat.specs.Assembly.{reads_count, first_ring, all_reads, IsRingOf, AreRingsOf, AreRingsSoFar, IsReadOn, ReadsTooLong}
 
--- one number more
-pub range_more : (first i : ℕ) → range_with_len first (i + 1) ≡ range_with_len first i ++ (first + i) ∷ []
-range_more first i = ap (range_with_len first) (add-one i) ∙ more first i
-  where
-    more : (a n : ℕ) → range_with_len a (suc n) ≡ range_with_len a n ++ (a + n) ∷ []
-    more a zero = let e : a ≡ a + 0 = omega arith in ap (λ t. t ∷ []) e
-    more a (suc n) = let e : a + 1 + n ≡ a + suc n = omega arith in ap (λ t. a ∷ t) (more (a + 1) n) ∙ ap (λ t. a ∷ (range_with_len (a + 1) n ++ t ∷ [])) e
-
--- what stands in a list stands in a longer one
-pub get_left : {A : Type 0} (xs ys : List A) (i : ℕ) (x : A) → slice_get xs i ≡ Some x → slice_get (xs ++ ys) i ≡ Some x
-get_left [] ys i x e = absurd (cc e)
-get_left (y ∷ xs) ys zero x e = e
-get_left (y ∷ xs) ys (suc i) x e = get_left xs ys i x e
-
+-- the last of a list with one more
 pub get_last : {A : Type 0} (xs : List A) (i : ℕ) (x : A) → length xs ≡ i → slice_get (xs ++ x ∷ []) i ≡ Some x
 get_last [] zero x e = refl
 get_last [] (suc i) x e = absurd (omega (arith, e))
@@ -64,13 +47,13 @@ pub so_far_more : (drafts : List Draft) (to upto : ℕ) (rings : List RingSpec) 
     AreRingsSoFar drafts to (upto + 1) (rings ++ next ∷ [])
 so_far_more drafts to upto rings next is new = record {
   count = omega (arith, is.count, length_push rings next);
-  before = λ a k from draft l e f. (let r = is.before a k from draft l e f in (r.0, get_left rings (next ∷ []) (first_ring drafts a + k) r.0 r.1, r.2));
+  before = λ a k from draft l e f. (let r = is.before a k from draft l e f in (r.0, still_there rings (next ∷ []) (first_ring drafts a + k) r.0 r.1, r.2));
   here = λ k from draft l e f. here_at k from draft l e f (cases_lt k upto);
 }
   where
     here_at : (k from : ℕ) (draft : Draft) → k < upto + 1 → slice_get drafts to ≡ Some draft → slice_get draft.reads.items k ≡ Some from → (k < upto) ⊎ (upto ≤ k) →
         (ring : RingSpec) × (slice_get (rings ++ next ∷ []) (first_ring drafts to + k) ≡ Some ring) × IsRingOf drafts to k from draft ring
-    here_at k from draft l e f (inl low) = let r = is.here k from draft low e f in (r.0, get_left rings (next ∷ []) (first_ring drafts to + k) r.0 r.1, r.2)
+    here_at k from draft l e f (inl low) = let r = is.here k from draft low e f in (r.0, still_there rings (next ∷ []) (first_ring drafts to + k) r.0 r.1, r.2)
     here_at k from draft l e f (inr high) =
         let same : upto ≡ k = omega (arith, l, high) in
         let at : length rings ≡ first_ring drafts to + k = omega (arith, is.count) in
@@ -99,21 +82,6 @@ rings_none drafts = record {
   count = refl;
   each = λ a k from draft l. absurd (omega (arith, l));
 }
-
--- what holds of a result
-pub ok_map : {T E : Type 0} (P Q : T → Type 0) (r : Result T E) → ((x : T) → P x → Q x) → IfOk r P → IfOk r Q
-ok_map P Q (Ok x) h p = h x p
-ok_map P Q (Err e) h p = p
-
-pub err_map : {T E : Type 0} (P Q : E → Type 0) (r : Result T E) → ((x : E) → P x → Q x) → IfErr r P → IfErr r Q
-err_map P Q (Ok x) h p = p
-err_map P Q (Err e) h p = h e p
-
-pub leaves : {T : Type 0} (P Q : FlatError → Type 0) (e : FlatError) (r : Result T FlatError) →
-    IsErrAnd r (λ y. y ≡ e) → P e → ((y : FlatError) → P y → Q y) → IfErr r Q
-leaves P Q e r i h f =
-    let p = err_from_is_err_and r i in
-    rw (p.1, p.2) (f e h)
 
 -- the second operand of a merge
 pub read_other : (kind : ActorKind) (k : ℕ) (p own write w : Bits) → kind ≡ Merge p → (k ≡ 0 → ⊥) → IsOn own (turned p) w → IsReadOn kind k own write w

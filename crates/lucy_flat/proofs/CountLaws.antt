@@ -7,6 +7,8 @@ use Rattle.std.proofs.lemmas.List.{append-nil, length-map, take_all, get_or-set_
 use Rattle.std.proofs.lemmas.Bool.{cases_lt}
 use Rattle.std.proofs.lemmas.List.Sums.{sum_by-cons, sum_by-append}
 use Rattle.std.proofs.lemmas.Option.{slice_get_within}
+use Rattle.lucy_word.proofs.Lists.{all_at}
+use Rattle.lucy_host.proofs.Elements.{get_there}
 use Rattle.lucy_place.specs.declared.placed.PlacedNode.{PlacedNode}
 use Rattle.lucy_place.specs.declared.entry.CallSite.{CallSite}
 use Rattle.lucy_place.specs.declared.entry.PlaceEntry.{PlaceEntry}
@@ -30,14 +32,12 @@ use Rattle.lucy_flat.proofs.Parts.{called}
 use Rattle.lucy_flat.specs.Flat.{ring_size}
 use Rattle.lucy_flat.specs.Counts.{read_count, own_rings, own_sizes}
 use Rattle.lucy_kahn.proofs.Tables.{calls_below, total_law}
-use Rattle.lucy_kahn.proofs.JoinedLists.{there}
 use Rattle.lucy_kahn.proofs.Closed.{get_take}
 use Rattle.lucy_flat.specs.Clocked.{AreClocked}
 use Rattle.lucy_flat.specs.Assembly.{reads_count, all_reads}
 use Rattle.lucy_flat.specs.Drafts.{AreMade, inside, own_spots, calls_spots, instance_spots, input_numbers, output_numbers, inputs_in, draft_slots, params_in}
 use Rattle.lucy_flat.proofs.SizeLaws.{sum_add, sizes_to}
 use Rattle.lucy_flat.proofs.InstanceLaws.{size_there}
-use Rattle.lucy_flat.proofs.SpotWords.{all_at}
 use Rattle.lucy_flat.proofs.PutLaws.{instance_law}
 use Rattle.lucy_flat.proofs.RingWords.{made_form, made_inner}
 use Rattle.lucy_kahn.specs.Numbers.{spots_of}
@@ -307,7 +307,7 @@ module _ (nodes : List PlacedNode) (clocks : List NodeClock) (proper : AreProper
   own_buffers : (i : ℕ) (n : PlacedNode) → slice_get nodes i ≡ Some n → sum_by (λ (e : PlaceEntry). ring_size clocks i e.kind) n.places ≡ own_sizes clocks i n
   own_buffers i n e =
       let within = slice_get_within nodes i n e in
-      let c = there clocks i (omega (arith, within, clocked.count)) in
+      let c = get_there clocks i (omega (arith, within, clocked.count)) in
       let is = clocked.each i n c.0 e c.1 in
       let node = proper i n e in
       let all = sizes_to n.places n.buffers c.0.sizes is.sizes.count

@@ -21,17 +21,6 @@ sum_take f xs j x e = ap (λ n. sum_by f (take n xs)) (add-one j) ∙ step f xs 
         omega (arith, sum_by-cons f z [])
     step f (z ∷ ys) (suc i) y g = omega (arith, sum_by-cons f z (take (suc i) ys), sum_by-cons f z (take i ys), step f ys i y g)
 
-pub got : {A : Type 0} (xs : List A) (i : ℕ) (d : A) → i < length xs → slice_get xs i ≡ Some (get_or xs i d)
-got [] i d h = absurd (omega (arith, h))
-got (x ∷ xs) zero d h = refl
-got (x ∷ xs) (suc i) d h = got xs i d (omega (arith, h))
-
-pub take_whole : {A : Type 0} (xs : List A) (j : ℕ) → length xs ≤ j → take j xs ≡ xs
-take_whole [] zero h = refl
-take_whole [] (suc j) h = refl
-take_whole (x ∷ xs) zero h = absurd (omega (arith, h))
-take_whole (x ∷ xs) (suc j) h = ap (λ t. x ∷ t) (take_whole xs j (omega (arith, h)))
-
 -- a front of a sum and one more are no more than the sum
 pub sum_part : {A : Type 0} (f : A → ℕ) (xs : List A) (j : ℕ) (x : A) → slice_get xs j ≡ Some x → sum_by f (take j xs) + f x ≤ sum_by f xs
 sum_part f [] j x e = absurd (cc e)

@@ -29,25 +29,21 @@ use Rattle.lucy_flat.specs.Flat.{ring_size, fires_at, IsActorOf, IsOutput}
 use Rattle.lucy_flat.specs.Counts.{HasSmallNet}
 use Rattle.lucy_word.proofs.OnLaws.{on_base, on_one}
 use Rattle.lucy_word.proofs.AdaptableLaws.{adaptable_self, size_self}
+use Rattle.lucy_word.proofs.Lists.{all_at, only_one, map_from}
+use Rattle.lucy_host.proofs.Elements.{get_there}
 use Rattle.lucy_kahn.proofs.Closed.{closed_at, place_spot, place_of}
-use Rattle.lucy_kahn.proofs.JoinedLists.{there}
 use Rattle.lucy_kahn.proofs.Paths.{proper_at}
 use Rattle.lucy_flat.specs.Clocked.{AreClocked}
 use Rattle.lucy_flat.specs.Drafts.{IsDraftMade, IsOutputDraft, AreDrafts}
 use Rattle.lucy_flat.specs.Refusals.{IsMergeTooLong}
 use Rattle.lucy_flat.specs.Assembly.{from_of, HasKind, IsReadOn, ReadsTooLong, AreReadyDrafts, IsReadTooLong, reads_count, first_ring, all_reads, IsRingOf, IsActorFrom, IsAssembled}
 use Rattle.lucy_flat.proofs.AssemblyLaws.{IsOperandRing, find_ring, present}
-use Rattle.lucy_flat.proofs.SpotWords.{base_same, clock_of, feeds, buffer_size, all_at}
+use Rattle.lucy_flat.proofs.SpotWords.{base_same, clock_of, feeds, buffer_size}
 use Rattle.lucy_net.specs.declared.kind.ActorKind.TheVariants.{Output}
 use Rattle.lucy_place.specs.declared.entry.PlaceKind.TheVariants as place_kind
 use Rattle.lucy_stream.specs.Forms.{operands, Same as Alike}
 use Rattle.lucy_flat.proofs.RingWords.{made_form, buffer_or, ring_empty, FiresBy, form_fires, fires, HasForm, form_has, place_has, ReadsBy, form_reads, IsRingWord, ring_word, ring_adaptable}
-use Rattle.lucy_flat.proofs.ProperLaws.{link_from, LongBy, form_long, place_long, place_arity}
-
-pub map_from : {A : Type 0} (f : A → ℕ) (xs : List A) (k y : ℕ) → slice_get (map f xs) k ≡ Some y → (x : A) × (slice_get xs k ≡ Some x) × (f x ≡ y)
-map_from f [] k y e = absurd (cc e)
-map_from f (x ∷ xs) zero y e = (x, refl, same_Some (f x) y e)
-map_from f (x ∷ xs) (suc k) y e = map_from f xs k y e
+use Rattle.lucy_flat.proofs.ProperLaws.{giver_at, LongBy, form_long, place_long, place_arity}
 
 -- numbers in a row, each looked up, are a list
 map_range : (f : ℕ → ℕ) (first : ℕ) (xs : List ℕ) → ((k x : ℕ) → slice_get xs k ≡ Some x → f (first + k) ≡ x) → map f (range_with_len first (length xs)) ≡ xs
@@ -103,10 +99,6 @@ module _ (nodes : List PlacedNode) where
       from_node None f h = absurd (cc h)
       from_node (Some n) f h = from_entry n (at_one n.places spot.place) f refl h
 
-pub only_one : (x j y : ℕ) → slice_get (x ∷ []) j ≡ Some y → x ≡ y
-only_one x zero y g = same_Some x y g
-only_one x (suc j) y g = absurd (cc g)
-
 -- a result of main is an instance place
 pub main_spot : (nodes : List PlacedNode) → AreProper nodes → (i place : ℕ) → slice_get (results_in (main_of nodes)) i ≡ Some place → IsSpot nodes (at [] place)
 main_spot nodes proper i place e = from_main (main_of nodes) refl e
@@ -150,7 +142,7 @@ module _ (nodes : List PlacedNode) (clocks : List NodeClock) (proper : AreProper
       by_number (inr high) =
           let within = slice_get_within drafts a d e in
           let i : ℕ = a - all_places nodes in
-          let place = there (results_in (node_at nodes [])) i (omega (arith, within, high, are.count)) in
+          let place = get_there (results_in (node_at nodes [])) i (omega (arith, within, high, are.count)) in
           let numbered : all_places nodes + i ≡ a = omega (arith, high) in
           let out = are.outputs i place.0 place.1 in
           inr (record { i = i; place = place.0; stands = place.1; numbered = numbered; out = out; same = same_Some out.draft d (sym out.there ∙ ap (slice_get drafts) numbered ∙ e) })
@@ -270,7 +262,7 @@ module _ (nodes : List PlacedNode) (clocks : List NodeClock) (proper : AreProper
   -- what an actor reads is what its draft reads
   givers : (a : ℕ) (d : Draft) → slice_get drafts a ≡ Some d → map (giver net) (range_with_len (first_ring drafts a) (reads_count d)) ≡ d.reads.items
   givers a d e = map_range (giver net) (first_ring drafts a) d.reads.items (λ k from f.
-      (let r = is.rings.each a k from d (slice_get_within drafts a d e) e f in link_from net.rings (first_ring drafts a + k) ∙ ap from_of r.1 ∙ r.2.from))
+      (let r = is.rings.each a k from d (slice_get_within drafts a d e) e f in giver_at net.rings (first_ring drafts a + k) ∙ ap from_of r.1 ∙ r.2.from))
 
   -- the numbers of rings
   pub all_rings_row : flat_map (λ (actor : Actor). actor.takes) net.actors ≡ range_with_len 0 (length net.rings)
@@ -424,7 +416,7 @@ module _ (nodes : List PlacedNode) (clocks : List NodeClock) (proper : AreProper
   output_ring a k source d ring high at_a got of =
       let within = slice_get_within drafts a d at_a in
       let i : ℕ = a - all_places nodes in
-      let place = there (results_in (node_at nodes [])) i (omega (arith, within, high, are.count)) in
+      let place = get_there (results_in (node_at nodes [])) i (omega (arith, within, high, are.count)) in
       let numbered : all_places nodes + i ≡ a = omega (arith, high) in
       let out = are.outputs i place.0 place.1 in
       let same : out.draft ≡ d = same_Some out.draft d (sym out.there ∙ ap (slice_get drafts) numbered ∙ at_a) in

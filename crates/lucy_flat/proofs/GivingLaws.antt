@@ -6,12 +6,13 @@ use Rattle.std.proofs.lemmas.Bool.{cases_lt, cases_eq, eq-eqb, ne_eqb}
 use Rattle.std.proofs.lemmas.List.{append-nil, length_push, length-set, take-append-le}
 use Rattle.std.proofs.lemmas.List.Sums.{sum_by-cons, sum_by-append}
 use Rattle.std.proofs.lemmas.Option.{same_Some, slice_get_within}
+use Rattle.lucy_word.proofs.Lists.{still_there, get_set, get_set_other}
+use Rattle.lucy_host.proofs.Elements.{get_there}
 use Rattle.lucy_net.specs.declared.net.Actor.{Actor}
 use Rattle.lucy_net.specs.declared.net.RingSpec.{RingSpec}
 use Rattle.lucy_flat.specs.declared.draft.Draft.{Draft}
 use Rattle.lucy_flat.specs.Assembly.{from_of, from_at, given_by, reads_count, first_ring, all_reads, HasKind, AreReadyDrafts, AreRingsOf, IsGiven, AreGiven, IsFiring, IsDraftActor, AreActorsOf, IsActorFrom, IsAssembled, IsReadTooLong}
-use Rattle.lucy_flat.proofs.AssemblyLaws.{get_left, get_last, present, find_ring}
-use Rattle.lucy_kahn.proofs.JoinedLists.{there}
+use Rattle.lucy_flat.proofs.AssemblyLaws.{get_last, present, find_ring}
 
 pub count_all : (ds : List Draft) → first_ring ds (length ds) ≡ all_reads ds
 count_all [] = refl
@@ -28,18 +29,6 @@ ring_source drafts rings r ring are e =
     let source = slice_get_within drafts o.source own.2.giver own.2.gives in
     let from : own.0.from ≡ ring.from = ap (λ (t : RingSpec). t.from) same in
     omega (arith, source, own.2.from, from)
-
-set_here : {A : Type 0} (xs : List A) (i : ℕ) (x : A) → i < length xs → slice_get (set xs i x) i ≡ Some x
-set_here [] i x l = absurd (omega (arith, l))
-set_here (y ∷ xs) zero x l = refl
-set_here (y ∷ xs) (suc i) x l = set_here xs i x (omega (arith, l))
-
-set_there : {A : Type 0} (xs : List A) (i j : ℕ) (x : A) → (j ≡ i → ⊥) → slice_get (set xs i x) j ≡ slice_get xs j
-set_there [] i j x n = refl
-set_there (y ∷ xs) zero zero x n = absurd (n refl)
-set_there (y ∷ xs) zero (suc j) x n = refl
-set_there (y ∷ xs) (suc i) zero x n = refl
-set_there (y ∷ xs) (suc i) (suc j) x n = set_there xs i j x (λ e. n (ap suc e))
 
 -- one ring more is handed out
 given_here : (rings : List RingSpec) (r a : ℕ) → from_at rings r ≡ a → given_by rings (r + 1) a ≡ given_by rings r a ++ r ∷ []
@@ -64,7 +53,7 @@ given_more old rings r new ring d next are e f kind word reads gives = record {
         let d_is : before.0 ≡ d = same_Some before.0 d (sym before.1 ∙ ap (slice_get new) same ∙ f) in
         let within = slice_get_within new ring.from d f in (
           next,
-          ap (slice_get (set new ring.from next)) same ∙ set_here new ring.from next within,
+          ap (slice_get (set new ring.from next)) same ∙ get_set new ring.from next within,
           record {
             kind = kind ∙ ap (λ (t : Draft). t.kind) (sym d_is) ∙ before.2.kind;
             word = word ∙ ap (λ (t : Draft). t.word) (sym d_is) ∙ before.2.word;
@@ -75,7 +64,7 @@ given_more old rings r new ring d next are e f kind word reads gives = record {
     each_at a draft g (inr other) =
         let before = are.each a draft g in (
           before.0,
-          set_there new ring.from a next other ∙ before.1,
+          get_set_other new ring.from a next other ∙ before.1,
           record {
             kind = before.2.kind;
             word = before.2.word;
@@ -99,10 +88,10 @@ actors_more rings done actors draft actor are is = record {
   where
     each_at : (a : ℕ) (d : Draft) → slice_get (done ++ draft ∷ []) a ≡ Some d → (a < length done) ⊎ (length done ≤ a) → (x : Actor) × (slice_get (actors ++ actor ∷ []) a ≡ Some x) × IsDraftActor rings (first_ring (done ++ draft ∷ []) a) d x
     each_at a d e (inl low) =
-        let own = there done a low in
-        let same : own.0 ≡ d = same_Some own.0 d (sym (get_left done (draft ∷ []) a own.0 own.1) ∙ e) in
+        let own = get_there done a low in
+        let same : own.0 ≡ d = same_Some own.0 d (sym (still_there done (draft ∷ []) a own.0 own.1) ∙ e) in
         let x = are.each a d (own.1 ∙ ap (λ t. Some t) same) in
-        (x.0, get_left actors (actor ∷ []) a x.0 x.1, subst (λ n. IsDraftActor rings n d x.0) (sym (first_front done (draft ∷ []) a (omega (arith, low)))) x.2)
+        (x.0, still_there actors (actor ∷ []) a x.0 x.1, subst (λ n. IsDraftActor rings n d x.0) (sym (first_front done (draft ∷ []) a (omega (arith, low)))) x.2)
     each_at a d e (inr high) =
         let within = slice_get_within (done ++ draft ∷ []) a d e in
         let a_is : length done ≡ a = omega (arith, within, high, length_push done draft) in
@@ -142,7 +131,7 @@ module _ (old given : List Draft) (rings : List RingSpec) (are : AreGiven old ri
   pub given_from : (a : ℕ) (x : Draft) → slice_get given a ≡ Some x → (d : Draft) × (slice_get old a ≡ Some d) × IsGiven rings (length rings) a d x
   given_from a x e =
       let within = slice_get_within given a x e in
-      let d = there old a (omega (arith, within, are.count)) in
+      let d = get_there old a (omega (arith, within, are.count)) in
       let own = are.each a d.0 d.1 in
       (d.0, d.1, subst (IsGiven rings (length rings) a d.0) (same_Some own.0 x (sym own.1 ∙ e)) own.2)
 

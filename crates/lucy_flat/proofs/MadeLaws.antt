@@ -5,12 +5,12 @@ use Rattle.std.specs.List.{range_with_len}
 use Rattle.std.proofs.lemmas.Bool.{cases_lt}
 use Rattle.std.proofs.lemmas.List.{append-nil, map-append}
 use Rattle.std.proofs.lemmas.Option.{same_Some}
+use Rattle.lucy_word.proofs.Lists.{range_more}
 use Rattle.lucy_place.specs.declared.placed.PlacedNode.{PlacedNode}
 use Rattle.lucy_clock.specs.declared.node_clock.NodeClock.{NodeClock}
 use Rattle.lucy_flat.specs.declared.draft.Draft.{Draft}
 use Rattle.lucy_kahn.specs.Spots.{Spot, at}
 use Rattle.lucy_flat.specs.Drafts.{IsSpotDraft, AreMade, IsFit, ArePlacesPut}
-use Rattle.lucy_flat.proofs.AssemblyLaws.{range_more}
 
 module _ (nodes : List PlacedNode) (clocks : List NodeClock) where
   pub made_length : (spots : List Spot) (drafts : List Draft) → AreMade nodes clocks spots drafts → length drafts ≡ length spots

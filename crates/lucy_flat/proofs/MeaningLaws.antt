@@ -4,12 +4,14 @@ use Rattle.std.specs.Prelude.{ℤ, slice_get, option_map}
 use Rattle.std.proofs.lemmas.Bool.{cases_lt}
 use Rattle.std.proofs.lemmas.List.{length-map}
 use Rattle.std.proofs.lemmas.Option.{same_Some, slice_get_within, slice_get-map}
+use Rattle.lucy_word.proofs.Lists.{all_at, only_one, map_from}
 use Rattle.lucy_host.specs.declared.kind.HostKind.{HostKind}
+use Rattle.lucy_host.proofs.Elements.{get_there}
 use Rattle.lucy_stream.specs.Forms.{Form, Same}
 use Rattle.lucy_stream.specs.Items.{list_at}
 use Rattle.lucy_stream.specs.Iterates.{Place, iterate}
 use Rattle.lucy_stream.specs.Names.{Named, AreIterates, AreNumbered}
-use Rattle.lucy_stream.specs.Needs.{Item, Needs, IsWalk, IsCausal}
+use Rattle.lucy_stream.specs.Needs.{StreamItem, Needs, IsWalk, IsCausal}
 use Rattle.lucy_stream.proofs.NameLaws.{named_iterates}
 use Rattle.lucy_stream.proofs.IterateLaws.{iterate-at}
 use Rattle.lucy_place.specs.declared.placed.PlacedNode.{PlacedNode}
@@ -23,12 +25,11 @@ use Rattle.lucy_kahn.proofs.Parts.{form_if, reads_if}
 use Rattle.lucy_kahn.specs.Sizes.{all_places}
 use Rattle.lucy_kahn.specs.Numbers.{number, numbered_place, numbered_places}
 use Rattle.lucy_kahn.specs.Kahn.{kahn}
-use Rattle.lucy_kahn.proofs.JoinedLists.{there}
-use Rattle.lucy_kahn.proofs.Closed.{closed, all_of, each_of}
+use Rattle.lucy_kahn.proofs.Closed.{closed, all_of}
 use Rattle.lucy_kahn.proofs.Numbered.{number_below, number_reached, place_there, count_places}
 use Rattle.lucy_flat.specs.Flat.{IsFlat}
 use Rattle.lucy_flat.proofs.RingWords.{form_back}
-use Rattle.lucy_flat.proofs.FlatLaws.{map_from, only_one, main_spot}
+use Rattle.lucy_flat.proofs.FlatLaws.{main_spot}
 
 -- the instance places of a program, by themselves
 abbrev program_places : List PlacedNode → Named Spot
@@ -84,11 +85,11 @@ module _ (nodes : List PlacedNode) (clocks : List NodeClock) (net : Net) (proper
             let r = number_reached nodes proper i low in
             let same : numbered_place nodes r.0 ≡ p = same_Some (numbered_place nodes r.0) p (sym (place_at r.0 r.1) ∙ ap (slice_get (net_places net)) r.2 ∙ e) in
             let read = map_from (number nodes) (reads_at nodes r.0) k m (ap (λ (t : Place). slice_get t.reads k) same ∙ f) in
-            subst (λ n. n < all_places nodes) read.2 (number_below nodes proper read.0 (each_of (IsSpot nodes) (reads_at nodes r.0) k read.0 (closed nodes proper r.0 r.1) read.1))
+            subst (λ n. n < all_places nodes) read.2 (number_below nodes proper read.0 (all_at (IsSpot nodes) (reads_at nodes r.0) k read.0 (closed nodes proper r.0 r.1) read.1))
         | inr high ↦
             let within = slice_get_within (net_places net) i p e in
             let j : ℕ = i - all_places nodes in
-            let place = there (results_in (main_of nodes)) j (omega (arith, within, high, flat.count, length-map net.actors (actor_place net))) in
+            let place = get_there (results_in (main_of nodes)) j (omega (arith, within, high, flat.count, length-map net.actors (actor_place net))) in
             let at_i : all_places nodes + j ≡ i = omega (arith, high) in
             let out : Place = record { form = Same; reads = number nodes (at [] place.0) ∷ [] } in
             let same : out ≡ p = same_Some out p (sym (output_at j place.0 place.1) ∙ ap (slice_get (net_places net)) at_i ∙ e) in
@@ -96,10 +97,10 @@ module _ (nodes : List PlacedNode) (clocks : List NodeClock) (net : Net) (proper
             subst (λ n. n < all_places nodes) only (number_below nodes proper (at [] place.0) (main_spot nodes proper j place.0 place.1))
       ]
 
-  need_front : (x y : Item) → Needs (net_places net) x y → y.place < all_places nodes
+  need_front : (x y : StreamItem) → Needs (net_places net) x y → y.place < all_places nodes
   need_front x y is = reads_front x.place is.place is.operand y.place is.there is.reads
 
-  need_to : (x y : Item) → x.place < all_places nodes → Needs (net_places net) x y → Needs (numbered_places nodes) x y
+  need_to : (x y : StreamItem) → x.place < all_places nodes → Needs (net_places net) x y → Needs (numbered_places nodes) x y
   need_to x y low is = record {
     place = is.place;
     there = sym (front_same x.place low) ∙ is.there;
@@ -110,7 +111,7 @@ module _ (nodes : List PlacedNode) (clocks : List NodeClock) (net : Net) (proper
     need = is.need;
   }
 
-  need_from : (x y : Item) → Needs (numbered_places nodes) x y → Needs (net_places net) x y
+  need_from : (x y : StreamItem) → Needs (numbered_places nodes) x y → Needs (net_places net) x y
   need_from x y is = record {
     place = is.place;
     there = front_same x.place (omega (arith, slice_get_within (numbered_places nodes) x.place is.place is.there, count_places nodes proper)) ∙ is.there;
@@ -121,15 +122,15 @@ module _ (nodes : List PlacedNode) (clocks : List NodeClock) (net : Net) (proper
     need = is.need;
   }
 
-  walk_from : (x : Item) (walk : List Item) (end : Item) → IsWalk (numbered_places nodes) x walk end → IsWalk (net_places net) x walk end
+  walk_from : (x : StreamItem) (walk : List StreamItem) (end : StreamItem) → IsWalk (numbered_places nodes) x walk end → IsWalk (net_places net) x walk end
   walk_from x [] end is = need_from x end is
   walk_from x (y ∷ walk) end is = (need_from x y is.0, walk_from y walk end is.1)
 
-  walk_front : (x : Item) (walk : List Item) (end : Item) → IsWalk (net_places net) x walk end → end.place < all_places nodes
+  walk_front : (x : StreamItem) (walk : List StreamItem) (end : StreamItem) → IsWalk (net_places net) x walk end → end.place < all_places nodes
   walk_front x [] end is = need_front x end is
   walk_front x (y ∷ walk) end is = walk_front y walk end is.1
 
-  walk_to : (x : Item) (walk : List Item) (end : Item) → x.place < all_places nodes → IsWalk (net_places net) x walk end → IsWalk (numbered_places nodes) x walk end
+  walk_to : (x : StreamItem) (walk : List StreamItem) (end : StreamItem) → x.place < all_places nodes → IsWalk (net_places net) x walk end → IsWalk (numbered_places nodes) x walk end
   walk_to x [] end low is = need_to x end low is
   walk_to x (y ∷ walk) end low is = (need_to x y low is.0, walk_to y walk end (need_front x y is.0) is.1)
 

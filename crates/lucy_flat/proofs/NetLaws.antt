@@ -6,6 +6,7 @@ use Rattle.std.proofs.lemmas.Bool.{eq-eqb, ne_eqb}
 use Rattle.std.proofs.lemmas.List.{take_all}
 use Rattle.std.proofs.lemmas.List.Sums.{sum_by-cons, sum_by-append}
 use Rattle.std.proofs.lemmas.Option.{same_Some, slice_get_within}
+use Rattle.std.proofs.lemmas.List.FromFn.{length-range_with_len}
 use Rattle.lucy_word.specs.Bits.{Bits, bit_count}
 use Rattle.lucy_word.specs.Shortest.{Same}
 use Rattle.lucy_word.specs.Sampling.{IsOnTooLong}
@@ -34,8 +35,10 @@ use Rattle.lucy_kahn.specs.Sizes.{all_places}
 use Rattle.lucy_kahn.specs.Numbers.{number}
 use Rattle.lucy_flat.specs.Flat.{IsFlat}
 use Rattle.lucy_flat.specs.Counts.{HasSmallNet}
-use Rattle.lucy_kahn.proofs.JoinedLists.{there}
+use Rattle.lucy_net.proofs.NetLaws.{to_here}
 use Rattle.lucy_word.specs.Stored.{IsStored}
+use Rattle.lucy_host.proofs.Elements.{get_there}
+use Rattle.lucy_net.proofs.WhereLaws.{where_same}
 use Rattle.lucy_flat.specs.Clocked.{AreClocked}
 use Rattle.lucy_flat.specs.Drafts.{inputs_in, AreDrafts, draft_slots}
 use Rattle.lucy_flat.specs.Refusals.{IsClockTooLong, IsMergeTooLong, IsFlatNet}
@@ -43,7 +46,7 @@ use Rattle.lucy_flat.specs.Assembly.{from_of, from_at, IsReadTooLong, reads_coun
 use Rattle.lucy_flat.proofs.AssemblyLaws.{first_next}
 use Rattle.lucy_flat.proofs.SpotWords.{spot_same, feeds}
 use Rattle.lucy_flat.proofs.RingWords.{made_form, made_inner, FiresBy, form_fires}
-use Rattle.lucy_flat.proofs.ProperLaws.{link_from, link_to, where_same, where_none, where_row, length_row, row_numbering, numbers_same, write_word, read_word, LongBy, long_form, none_inner, none_gives, rings_rise, row_of, row_at, slots_of_ring, slots_front}
+use Rattle.lucy_flat.proofs.ProperLaws.{giver_at, where_none, where_row, row_numbering, numbers_same, write_word, read_word, LongBy, long_form, none_inner, none_gives, rings_rise, row_of, row_at, slots_of_ring, slots_front}
 use Rattle.lucy_flat.proofs.FlatLaws.{standing, which, ready_kinds, ready_below, ready_arity, actor_of, output_of, sampled_word, all_rings_row, count_whole, ring_found, ring_fits, ring_sizes}
 
 -- the bits of a net's words
@@ -71,14 +74,14 @@ module _ (nodes : List PlacedNode) (clocks : List NodeClock) (proper : AreProper
   drafted : (a : ℕ) (actor : Actor) → slice_get net.actors a ≡ Some actor → IsDrafted a actor
   drafted a actor e =
       let within = slice_get_within net.actors a actor e in
-      let d = there drafts a (omega (arith, within, is.count)) in
+      let d = get_there drafts a (omega (arith, within, is.count)) in
       let own = is.actors a d.0 d.1 in
       let same : own.0 ≡ actor = same_Some own.0 actor (sym own.1 ∙ e) in
       record { draft = d.0; there = d.1; from = subst (IsActorFrom drafts net a d.0) same own.2 }
 
   -- the rings from an actor, and those to it
   gives_are : (a : ℕ) → numbers_where (λ r. nat_eq (from_at net.rings r) a) (length net.rings) ≡ numbers_where (λ r. nat_eq (giver net r) a) (length net.rings)
-  gives_are a = where_same (λ r. nat_eq (from_at net.rings r) a) (λ r. nat_eq (giver net r) a) (length net.rings) (λ r l. ap (λ t. nat_eq t a) (sym (link_from net.rings r)))
+  gives_are a = where_same (λ r. nat_eq (from_at net.rings r) a) (λ r. nat_eq (giver net r) a) (length net.rings) (λ r l. ap (λ t. nat_eq t a) (sym (giver_at net.rings r)))
 
   rings_of_draft : (a : ℕ) (d : Draft) → slice_get drafts a ≡ Some d → first_ring drafts a + reads_count d ≤ length net.rings
   rings_of_draft a d e =
@@ -99,7 +102,7 @@ module _ (nodes : List PlacedNode) (clocks : List NodeClock) (proper : AreProper
 
   taken : (r : ℕ) → r < length net.rings → IsTaken r
   taken r l =
-      let ring = there net.rings r l in
+      let ring = get_there net.rings r l in
       let o = ring_found nodes clocks proper clocked drafts net are is r ring.0 ring.1 in
       record {
         by = o.0.a;
@@ -108,7 +111,7 @@ module _ (nodes : List PlacedNode) (clocks : List NodeClock) (proper : AreProper
         there = o.0.there;
         few = slice_get_within o.0.draft.reads.items o.0.k o.0.source o.0.reads;
         is_at = o.0.is;
-        to = link_to net.rings r ring.0 ring.1 ∙ o.1.to;
+        to = to_here net r ring.0 ring.1 ∙ o.1.to;
       }
 
   takes_are : (a : ℕ) (d : Draft) → slice_get drafts a ≡ Some d → numbers_where (λ r. nat_eq (taker net r) a) (length net.rings) ≡ range_with_len (first_ring drafts a) (reads_count d)
@@ -142,7 +145,7 @@ module _ (nodes : List PlacedNode) (clocks : List NodeClock) (proper : AreProper
     where
       none_at : (r : ℕ) → r < length net.rings → nat_eq (from_at net.rings r) a ≡ false
       none_at r l =
-          let ring = there net.rings r l in
+          let ring = get_there net.rings r l in
           let o = ring_found nodes clocks proper clocked drafts net are is r ring.0 ring.1 in
           let low = ready_below nodes clocks proper clocked drafts are o.0.a o.0.k o.0.source o.0.draft o.0.there o.0.reads in
           let source : from_at net.rings r ≡ o.0.source = ap from_of ring.1 ∙ o.1.from in
@@ -161,7 +164,7 @@ module _ (nodes : List PlacedNode) (clocks : List NodeClock) (proper : AreProper
       record {
         gives = d.from.gives ∙ gives_are a;
         takes = d.from.takes ∙ sym (takes_are a d.draft d.there);
-        arity = ap length d.from.takes ∙ length_row (first_ring drafts a) (reads_count d.draft) ∙ ready_arity nodes clocks proper clocked drafts are a d.draft d.there ∙ ap (λ k. operands (plans.form_of k)) (sym d.from.kind);
+        arity = ap length d.from.takes ∙ length-range_with_len (first_ring drafts a) (reads_count d.draft) ∙ ready_arity nodes clocks proper clocked drafts are a d.draft d.there ∙ ap (λ k. operands (plans.form_of k)) (sym d.from.kind);
         gives_none = gives_none_at a actor d;
       }
 
@@ -190,7 +193,7 @@ module _ (nodes : List PlacedNode) (clocks : List NodeClock) (proper : AreProper
       IsRingOf drafts a k source d ring → IsActorFrom drafts net a d actor → (j : ℕ) → j < length actor.takes → slice_index_or actor.takes j 0 ≡ r → IsReadWord (plans.form_of actor.kind) actor.firing j ring.read
   read_at r ring a k source d actor e f g at_r of from j l same =
       let few = slice_get_within d.reads.items k source g in
-      let count : length actor.takes ≡ reads_count d = ap length from.takes ∙ length_row (first_ring drafts a) (reads_count d) in
+      let count : length actor.takes ≡ reads_count d = ap length from.takes ∙ length-range_with_len (first_ring drafts a) (reads_count d) in
       let row : slice_index_or actor.takes j 0 ≡ first_ring drafts a + j = ap (λ t. get_or t j 0) from.takes ∙ row_at (first_ring drafts a) (reads_count d) j (omega (arith, l, count)) in
       let j_is : k ≡ j = omega (arith, row, same, at_r) in
       let word = read_word d.kind k (reads_count d) d.word of.giver.word actor.firing ring.read (slice_get net.rings (first_ring drafts a)) of.read from.firing (ready_kinds nodes clocks proper clocked drafts are a d f) (first_is few) in

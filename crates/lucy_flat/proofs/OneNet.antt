@@ -4,6 +4,7 @@ use Rattle.std.specs.Prelude.{All, slice_get, Result, Ok, Err, IfOk, IfErr, Matc
 use Rattle.std.specs.List.{range_with_len, flat_map}
 use Rattle.std.proofs.lemmas.Bool.{cases_lt, eqb-true}
 use Rattle.std.proofs.lemmas.Option.{same_Some, slice_get_within}
+use Rattle.std.proofs.lemmas.List.FromFn.{length-range_with_len}
 use Rattle.lucy_word.specs.Bits.{Bits}
 use Rattle.lucy_word.specs.Shortest.{Same}
 use Rattle.lucy_word.specs.Stored.{IsStored}
@@ -20,12 +21,11 @@ use Rattle.lucy_net.specs.declared.net.RingSpec.{RingSpec}
 use Rattle.lucy_net.specs.declared.net.Net.{Net}
 use Rattle.lucy_net.specs.Plans.{form_of, giver, taker}
 use Rattle.lucy_net.specs.Proper.{numbers_where, IsWriteWord, IsReadWord, IsProperActor}
-use Rattle.lucy_net.proofs.WhereLaws.{where_all, operand_of}
+use Rattle.lucy_net.proofs.WhereLaws.{where_all, operand_of, where_same}
 use Rattle.lucy_net.proofs.NetLaws.{from_here, to_here, taken_times}
 use Rattle.lucy_net.proofs.WordLaws.{actor_word, ring_word}
 use Rattle.lucy_kahn.specs.Spots.{at, main_of, results_in}
 use Rattle.lucy_kahn.specs.Sizes.{all_places}
-use Rattle.lucy_kahn.proofs.JoinedLists.{there}
 use Rattle.lucy_kahn.proofs.Numbered.{number_reached}
 use Rattle.lucy_flat.specs.Flat.{fires_at}
 use Rattle.lucy_flat.specs.Counts.{HasSmallNet, IsPassedBy, NetPasses, actors_of, rings_of, slots_of}
@@ -35,8 +35,9 @@ use Rattle.lucy_flat.specs.declared.error.FlatError.TheVariants as err
 use Rattle.lucy_word.specs.Limits.{limit_number}
 use Rattle.lucy_word.specs.declared.limit.Limit.{Limit}
 use Rattle.lucy_word.specs.declared.limit.Limit.TheVariants as limit
+use Rattle.lucy_word.proofs.Lists.{same_entries}
+use Rattle.lucy_host.proofs.Elements.{get_there}
 use Rattle.lucy_flat.proofs.SpotWords.{spot_same}
-use Rattle.lucy_flat.proofs.ProperLaws.{where_same}
 
 -- words in memory that have the same bits are one
 same_stored : (v w : Bits) → IsStored v → IsStored w → Same v w → v ≡ w
@@ -72,13 +73,6 @@ read_same (Merged p) firing zero v w a b = on_one firing p v w a b
 read_same (Merged p) firing (suc j) v w a b = on_one firing a.0 v w a.2 (on_word firing b.0 a.0 w (complement_same p b.0 a.0 b.1 a.1) b.2)
 read_same (Delayed x) firing j v w a b = same_trans v firing w (same_sym firing v a) b
 read_same Alike firing j v w a b = same_trans v firing w (same_sym firing v a) b
-
--- lists that are alike at each place
-lists_same : {X : Type 0} (xs ys : List X) → length xs ≡ length ys → ((i : ℕ) (x y : X) → slice_get xs i ≡ Some x → slice_get ys i ≡ Some y → x ≡ y) → xs ≡ ys
-lists_same [] [] l h = refl
-lists_same [] (y ∷ ys) l h = absurd (omega (arith, l))
-lists_same (x ∷ xs) [] l h = absurd (omega (arith, l))
-lists_same (x ∷ xs) (y ∷ ys) l h = (let here : x ≡ y = h 0 x y refl refl in let rest : xs ≡ ys = lists_same xs ys (omega (arith, l)) (λ i a b e f. h (suc i) a b e f) in cc)
 
 -- lists joined of parts that are alike, or as long
 flat_same : {X Y Z : Type 0} (f : X → List Z) (g : Y → List Z) (xs : List X) (ys : List Y) → length xs ≡ length ys → ((i : ℕ) (x : X) (y : Y) → slice_get xs i ≡ Some x → slice_get ys i ≡ Some y → f x ≡ g y) → flat_map f xs ≡ flat_map g ys
@@ -126,10 +120,6 @@ map_append g (x ∷ xs) ys = ap (λ t. g x ∷ t) (map_append g xs ys)
 map_flat : {X Y Z : Type 0} (g : Y → Z) (f : X → List Y) (xs : List X) → map g (flat_map f xs) ≡ flat_map (λ x. map g (f x)) xs
 map_flat g f [] = refl
 map_flat g f (x ∷ xs) = map_append g (f x) (flat_map f xs) ∙ ap (λ t. map g (f x) ++ t) (map_flat g f xs)
-
-pub row_length : (n m : ℕ) → length (range_with_len n m) ≡ m
-row_length n zero = refl
-row_length n (suc m) = omega (arith, row_length (n + 1) m)
 
 -- numbers in a row, looked up
 row_looked : (f g : ℕ → ℕ) (n m : ℕ) → map f (range_with_len n m) ≡ map g (range_with_len n m) → (r : ℕ) → n ≤ r → r < n + m → f r ≡ g r
@@ -186,7 +176,7 @@ module _ (nodes : List PlacedNode) (clocks : List NodeClock) (proper : AreProper
         subst (λ t. AreAlike a b t y) p_is (subst (AreAlike a b p.actor) q_is both)
     | inr high ↦
         let j : ℕ = i - all_places nodes in
-        let place = there (results_in (main_of nodes)) j (omega (arith, high, slice_get_within a.actors i x e, is_a.flat.count)) in
+        let place = get_there (results_in (main_of nodes)) j (omega (arith, high, slice_get_within a.actors i x e, is_a.flat.count)) in
         let at_i : all_places nodes + j ≡ i = omega (arith, high) in
         let p = is_a.flat.outputs j place.0 place.1 in
         let q = is_b.flat.outputs j place.0 place.1 in
@@ -209,8 +199,8 @@ module _ (nodes : List PlacedNode) (clocks : List NodeClock) (proper : AreProper
 
   rings_count : length a.rings ≡ length b.rings
   rings_count =
-      sym (row_length 0 (length a.rings)) ∙ ap length (sym is_a.flat.rings) ∙ flat_length (λ (x : Actor). x.takes) (λ (y : Actor). y.takes) a.actors b.actors count arity
-      ∙ ap length is_b.flat.rings ∙ row_length 0 (length b.rings)
+      sym (length-range_with_len 0 (length a.rings)) ∙ ap length (sym is_a.flat.rings) ∙ flat_length (λ (x : Actor). x.takes) (λ (y : Actor). y.takes) a.actors b.actors count arity
+      ∙ ap length is_b.flat.rings ∙ length-range_with_len 0 (length b.rings)
 
   takes : (i : ℕ) (x y : Actor) → slice_get a.actors i ≡ Some x → slice_get b.actors i ≡ Some y → x.takes ≡ y.takes
   takes = flat_parts (λ (x : Actor). x.takes) (λ (y : Actor). y.takes) a.actors b.actors count arity (is_a.flat.rings ∙ ap (range_with_len 0) rings_count ∙ sym is_b.flat.rings)
@@ -232,7 +222,7 @@ module _ (nodes : List PlacedNode) (clocks : List NodeClock) (proper : AreProper
   firing i x y e f = same_stored x.firing y.firing (actor_word IsStored a i x is_a.stored e) (actor_word IsStored b i y is_b.stored f) (alike i x y e f).firing
 
   actors : a.actors ≡ b.actors
-  actors = lists_same a.actors b.actors count (λ i x y e f. actor_is x y (alike i x y e f).kind (firing i x y e f) (takes i x y e f) (gives i x y e f))
+  actors = same_entries a.actors b.actors count (λ i x y e f. actor_is x y (alike i x y e f).kind (firing i x y e f) (takes i x y e f) (gives i x y e f))
 
   rings : (r : ℕ) (p q : RingSpec) → slice_get a.rings r ≡ Some p → slice_get b.rings r ≡ Some q → p ≡ q
   rings r p q e f =
@@ -258,7 +248,7 @@ module _ (nodes : List PlacedNode) (clocks : List NodeClock) (proper : AreProper
       ring_is p q from to write read size
 
   pub one_net : a ≡ b
-  one_net = net_is a b actors (lists_same a.rings b.rings rings_count rings)
+  one_net = net_is a b actors (same_entries a.rings b.rings rings_count rings)
 
 -- a program passes one limit first
 small_not_passed : (nodes : List PlacedNode) (clocks : List NodeClock) (l : Limit) → HasSmallNet nodes clocks → NetPasses nodes clocks l → ⊥

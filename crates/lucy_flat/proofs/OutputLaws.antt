@@ -9,6 +9,8 @@ use Rattle.std.proofs.lemmas.List.Sums.{sum_by_push}
 use Rattle.std.proofs.lemmas.Option.{same_Some, slice_get_within}
 use Rattle.lucy_word.specs.Bits.{Bits, IsWord}
 use Rattle.lucy_word.specs.Shortest.{IsShortest}
+use Rattle.lucy_word.proofs.Lists.{still_there, range_more}
+use Rattle.lucy_host.proofs.Elements.{get_there}
 use Rattle.lucy_place.specs.declared.placed.PlacedNode.{PlacedNode}
 use Rattle.lucy_place.specs.declared.entry.PlaceKind.{PlaceKind}
 use Rattle.lucy_place.specs.Proper.{IsPlace, AreProper}
@@ -21,12 +23,11 @@ use Rattle.lucy_kahn.specs.Sizes.{all_places}
 use Rattle.lucy_kahn.specs.Numbers.{number}
 use Rattle.lucy_flat.specs.Instances.{IsSpotWord}
 use Rattle.lucy_flat.specs.Counts.{last_of}
-use Rattle.lucy_kahn.proofs.JoinedLists.{there}
 use Rattle.lucy_kahn.proofs.Closed.{place_of, place_spot}
 use Rattle.lucy_flat.specs.Clocked.{AreClocked}
 use Rattle.lucy_flat.specs.Assembly.{reads_count, all_reads}
 use Rattle.lucy_flat.specs.Drafts.{IsDraftMade, IsDraft, IsOutputDraft, IsOfSpot, instance_spots, input_numbers, output_numbers, inputs_in, draft_slots, ArePut, AreDrafts, AreDraftsSoFar}
-use Rattle.lucy_flat.proofs.AssemblyLaws.{range_more, get_left, get_last, present}
+use Rattle.lucy_flat.proofs.AssemblyLaws.{get_last, present}
 use Rattle.lucy_flat.proofs.MadeLaws.{made_length, made_at}
 use Rattle.lucy_flat.proofs.SpotLaws.{spot_at, whole_length}
 use Rattle.lucy_flat.proofs.InstanceLaws.{word_is}
@@ -60,7 +61,7 @@ module _ (nodes : List PlacedNode) (clocks : List NodeClock) (proper : AreProper
       IsSpotWord nodes clocks (at [] place) next.word → IsWord next.word → IsShortest next.word → next.size ≡ 0 → next.gives.items ≡ [] → AreDraftsSoFar nodes clocks (i + 1) (drafts ++ next ∷ [])
   outputs_more i place drafts next are got kind reads word is_word short size gives = record {
     count = omega (arith, are.count, length_push drafts next);
-    places = λ spot k e. (let d = are.places spot k e in (d.0, get_left drafts (next ∷ []) (number nodes spot) d.0 d.1, d.2));
+    places = λ spot k e. (let d = are.places spot k e in (d.0, still_there drafts (next ∷ []) (number nodes spot) d.0 d.1, d.2));
     outputs = λ j p l e. output_at j p l e (cases_lt j i);
     inputs = flat_map-append (λ (d : Draft). input_of d.kind) drafts (next ∷ []) ∙ ap (λ k. input_numbers drafts ++ (input_of k ++ [])) kind ∙ append-nil (input_numbers drafts) ∙ are.inputs;
     numbered = flat_map-append (λ (d : Draft). output_of d.kind) drafts (next ∷ []) ∙ ap (λ k. output_numbers drafts ++ (output_of k ++ [])) kind ∙ ap (λ t. t ++ i ∷ []) are.numbered ∙ row;
@@ -82,7 +83,7 @@ module _ (nodes : List PlacedNode) (clocks : List NodeClock) (proper : AreProper
           let out = are.outputs j p low e in
           record {
             draft = out.draft;
-            there = get_left drafts (next ∷ []) (all_places nodes + j) out.draft out.there;
+            there = still_there drafts (next ∷ []) (all_places nodes + j) out.draft out.there;
             kind = out.kind;
             reads = out.reads;
             word = out.word;
@@ -117,7 +118,7 @@ module _ (nodes : List PlacedNode) (clocks : List NodeClock) (proper : AreProper
       (d.0, ap (λ t. slice_get t (number nodes spot)) put.grown ∙ d.1, subst (λ k. IsDraftMade nodes clocks spot k d.0) same d.2.made)
 
   main_node : (n : PlacedNode) × (main_of nodes ≡ Some n)
-  main_node = there nodes (last_of nodes) (omega (arith, some))
+  main_node = get_there nodes (last_of nodes) (omega (arith, some))
 
   pub drafts_first : AreDraftsSoFar nodes clocks 0 old
   drafts_first =

@@ -14,6 +14,8 @@ use Rattle.lucy_word.specs.Sampling.{IsOnTooLong}
 use Rattle.lucy_word.specs.Complement.{turned}
 use Rattle.lucy_word.proofs.BitsLaws.{period_some}
 use Rattle.lucy_word.proofs.ShortLaws.{shortest_one}
+use Rattle.lucy_word.proofs.Lists.{all_at, map_from}
+use Rattle.lucy_host.proofs.Elements.{get_there}
 use Rattle.lucy_place.specs.declared.placed.PlacedNode.{PlacedNode}
 use Rattle.lucy_place.specs.declared.entry.PlaceKind.{PlaceKind}
 use Rattle.lucy_place.specs.declared.entry.PlaceKind.TheVariants as place_kind
@@ -28,7 +30,6 @@ use Rattle.lucy_net.specs.Words.{ring_words}
 use Rattle.lucy_clock.specs.declared.node_clock.NodeClock.{NodeClock}
 use Rattle.lucy_kahn.specs.Spots.{at, spot_form, spot_reads, IsSpot}
 use Rattle.lucy_kahn.specs.Numbers.{number}
-use Rattle.lucy_kahn.proofs.JoinedLists.{there}
 use Rattle.lucy_kahn.proofs.Closed.{closed_at}
 use Rattle.lucy_flat.specs.declared.draft.Draft.{Draft}
 use Rattle.lucy_flat.specs.Instances.{IsSpotWord}
@@ -40,9 +41,9 @@ use Rattle.lucy_flat.specs.Drafts.{AreDrafts, draft_bits}
 use Rattle.lucy_flat.specs.Assembly.{reads_count, IsReadOn, IsReadTooLong, ReadsTooLong, IsRingOf, AreRingsOf, AreRingsSoFar, IsFiring, AreReadyDrafts, IsAssembled, IsNetPast}
 use Rattle.lucy_flat.proofs.AssemblyLaws.{present, ring_is, rings_none, so_far_none, so_far_more, so_far_all}
 use Rattle.lucy_flat.proofs.ExtentLaws.{sum_take}
-use Rattle.lucy_flat.proofs.SpotWords.{Feeds, feeds, spot_same, all_at}
+use Rattle.lucy_flat.proofs.SpotWords.{Feeds, feeds, spot_same}
 use Rattle.lucy_flat.proofs.RingWords.{ReadsBy, made_form}
-use Rattle.lucy_flat.proofs.FlatLaws.{map_from, standing, which, ready, read_long}
+use Rattle.lucy_flat.proofs.FlatLaws.{standing, which, ready, read_long}
 use Rattle.lucy_flat.proofs.NetLaws.{words_bits}
 use Rattle.lucy_flat.proofs.HeldLaws.{words_stored, net_of, is_assembled, net_stored}
 use Rattle.lucy_flat.proofs.KeptLaws.{stored_at}
@@ -175,7 +176,7 @@ module _ (nodes : List PlacedNode) (clocks : List NodeClock) (proper : AreProper
     words_front zero l = omega arith
     words_front (suc n) l =
         let rest = words_front n (omega (arith, l)) in
-        let d = there drafts n (omega (arith, l)) in
+        let d = get_there drafts n (omega (arith, l)) in
         let own = is.actors n d.0 d.1 in
         let here = word_within n d.0 own.0 d.1 (firing_own d.0.kind d.0.word net.rings _ own.0.firing own.2.firing) in
         let s : n + 1 ≡ suc n = omega arith in
@@ -227,7 +228,7 @@ module _ (nodes : List PlacedNode) (clocks : List NodeClock) (proper : AreProper
     ring_there a k d e l =
         let source : ℕ = get_or d.reads.items k 0 in
         let got : slice_get d.reads.items k ≡ Some source = present d.reads.items k l in
-        let giver = there drafts source (drafts_ready.reads a k source d e got) in
+        let giver = get_there drafts source (drafts_ready.reads a k source d e got) in
         let read = read_there a k source d giver.0 e got giver.1 in
         let fits : ReadsTooLong d.kind k d.word → ⊥ = λ long. reads_fit (record { a = a; draft = d; there = e; operand = k; within = l; too_long = long }) in
         record {
@@ -253,7 +254,7 @@ module _ (nodes : List PlacedNode) (clocks : List NodeClock) (proper : AreProper
     rings_upto zero l = ([], rings_none drafts, All-nil IsStored)
     rings_upto (suc a) l =
         let before = rings_upto a (omega (arith, l)) in
-        let d = there drafts a (omega (arith, l)) in
+        let d = get_there drafts a (omega (arith, l)) in
         let more = rings_front a d.0 d.1 before.0 before.1 before.2 (reads_count d.0) (omega arith) in
         let s : a + 1 ≡ suc a = omega arith in
         (more.0, subst (λ n. AreRingsOf drafts n more.0) s (so_far_all drafts a d.0 more.0 d.1 more.1), more.2)

@@ -6,6 +6,7 @@ use Rattle.std.proofs.lemmas.Bool.{cases_lt, eq-eqb, ne_eqb}
 use Rattle.std.proofs.lemmas.List.{append-nil, length-map, take-take}
 use Rattle.std.proofs.lemmas.List.Sums.{sum_by-cons, sum_by-take-le}
 use Rattle.std.proofs.lemmas.Option.{same_Some}
+use Rattle.std.proofs.lemmas.List.FromFn.{length-range_with_len}
 use Rattle.lucy_word.specs.Bits.{Bits}
 use Rattle.lucy_word.specs.Shortest.{Same}
 use Rattle.lucy_word.specs.Sampling.{IsOn, IsOnTooLong}
@@ -16,42 +17,33 @@ use Rattle.lucy_place.specs.Proper.{IsProperKind}
 use Rattle.lucy_place.specs.declared.entry.PlaceKind.{PlaceKind}
 use Rattle.lucy_place.specs.declared.entry.PlaceKind.TheVariants as place_kind
 use Rattle.lucy_stream.specs.Forms.{Form, Merged, operands}
-use Rattle.lucy_stream.specs.Plans.{no_link, times}
+use Rattle.lucy_stream.specs.Plans.{times}
 use Rattle.lucy_net.specs.declared.kind.ActorKind.{ActorKind}
 use Rattle.lucy_net.specs.declared.kind.ActorKind.TheVariants.{Input, Lit, Op, Host, When, Merge, Fby, Pass, Output}
 use Rattle.lucy_net.specs.declared.net.Actor.{Actor}
 use Rattle.lucy_net.specs.declared.net.RingSpec.{RingSpec}
-use Rattle.lucy_net.specs.Plans.{link_of}
 use Rattle.lucy_net.specs.Plans as plans
-use Rattle.lucy_net.specs.Proper.{numbers_where, output_of, numbers_of, IsNumbering, IsWriteWord, IsReadWord}
+use Rattle.lucy_net.specs.Proper.{numbers_where, output_of, IsNumbering, IsWriteWord, IsReadWord}
+use Rattle.lucy_net.proofs.NumberedLaws.{numbers_of}
 use Rattle.lucy_net.specs.States.{GivesNone}
 use Rattle.lucy_flat.specs.declared.draft.Draft.{Draft}
 use Rattle.lucy_kahn.specs.Spots.{at, spot_form, spot_reads}
-use Rattle.lucy_kahn.proofs.JoinedLists.{there}
 use Rattle.lucy_word.proofs.OnLaws.{same_self}
+use Rattle.lucy_word.proofs.Lists.{range_more}
+use Rattle.lucy_host.proofs.Elements.{get_there}
 use Rattle.lucy_flat.specs.Assembly.{from_at, first_ring, reads_count, AreRingsOf, IsReadOn, ReadsTooLong, IsFiring, HasKind}
 use Rattle.lucy_flat.specs.Drafts.{draft_slots}
-use Rattle.lucy_flat.proofs.AssemblyLaws.{range_more, first_next, present}
+use Rattle.lucy_flat.proofs.AssemblyLaws.{first_next, present}
 use Rattle.lucy_flat.proofs.ExtentLaws.{sum_take}
 use Rattle.lucy_flat.proofs.RingWords.{FiresBy}
 
--- the ends of a ring, as a link
-pub link_from : (rings : List RingSpec) (r : ℕ) → (slice_index_or (map link_of rings) r no_link).from ≡ from_at rings r
-link_from [] r = refl
-link_from (ring ∷ rings) zero = refl
-link_from (ring ∷ rings) (suc r) = link_from rings r
-
-pub link_to : (rings : List RingSpec) (r : ℕ) (ring : RingSpec) → slice_get rings r ≡ Some ring → (slice_index_or (map link_of rings) r no_link).to ≡ ring.to
-link_to [] r ring e = absurd (cc e)
-link_to (x ∷ rings) zero ring e = ap (λ (t : RingSpec). t.to) (same_Some x ring e)
-link_to (x ∷ rings) (suc r) ring e = link_to rings r ring e
+-- the actor that gives to a ring of a list
+pub giver_at : (rings : List RingSpec) (r : ℕ) → slice_index_or (map (λ (ring : RingSpec). ring.from) rings) r 0 ≡ from_at rings r
+giver_at [] r = refl
+giver_at (ring ∷ rings) zero = refl
+giver_at (ring ∷ rings) (suc r) = giver_at rings r
 
 -- numbers for which a test holds
-pub where_same : (f g : ℕ → Bool) (n : ℕ) → ((r : ℕ) → r < n → f r ≡ g r) → numbers_where f n ≡ numbers_where g n
-where_same f g zero h = refl
-where_same f g (suc n) h =
-    ap (λ t. t ++ cond (f n) (n ∷ []) []) (where_same f g n (λ r l. h r (omega (arith, l)))) ∙ ap (λ b. numbers_where g n ++ cond b (n ∷ []) []) (h n (omega arith))
-
 pub where_none : (f : ℕ → Bool) (n : ℕ) → ((r : ℕ) → r < n → f r ≡ false) → numbers_where f n ≡ []
 where_none f zero h = refl
 where_none f (suc n) h =
@@ -82,10 +74,6 @@ pub where_row : (f : ℕ → Bool) (lo count n : ℕ) → lo + count ≤ n → (
 where_row f lo count n within a b c = let e : min count (n - lo) ≡ count = omega (arith, within) in where_front f lo count n a b c ∙ ap (range_with_len lo) e
 
 -- a row is a numbering
-pub length_row : (a n : ℕ) → length (range_with_len a n) ≡ n
-length_row a zero = refl
-length_row a (suc n) = omega (arith, length_row (a + 1) n)
-
 row_none : (a n k : ℕ) → k < a → times k (range_with_len a n) ≡ 0
 row_none a zero k l = refl
 row_none a (suc n) k l =
@@ -108,7 +96,7 @@ row_once a (suc n) k low high =
         omega (arith, c, o, row_none (a + 1) n k (omega (arith, here)))
 
 pub row_numbering : (n : ℕ) → IsNumbering (range_with_len 0 n)
-row_numbering n k l = row_once 0 n k (omega arith) (omega (arith, l, length_row 0 n))
+row_numbering n k l = row_once 0 n k (omega arith) (omega (arith, l, length-range_with_len 0 n))
 
 -- inputs and outputs of actors are those of their drafts
 abbrev pub AreKinds : List Actor → List Draft → Type 0
@@ -294,7 +282,7 @@ slots_here drafts rings upto a d are low f (suc k) l =
 pub slots_front : (drafts : List Draft) (rings : List RingSpec) (upto : ℕ) → AreRingsOf drafts upto rings → (a : ℕ) → a ≤ upto → a ≤ length drafts → sum_by slots_of_ring (take (first_ring drafts a) rings) ≡ sum_by draft_slots (take a drafts)
 slots_front drafts rings upto are zero l m = refl
 slots_front drafts rings upto are (suc a) l m =
-    let d = there drafts a (omega (arith, m)) in
+    let d = get_there drafts a (omega (arith, m)) in
     let s : suc a ≡ a + 1 = omega arith in
     let next : first_ring drafts (suc a) ≡ first_ring drafts a + reads_count d.0 = ap (first_ring drafts) s ∙ first_next drafts a d.0 d.1 in
     let e = ap (λ n. sum_by slots_of_ring (take n rings)) next in

@@ -5,9 +5,11 @@ use Rattle.std.specs.List.{range_with_len}
 use Rattle.std.proofs.lemmas.Bool.{cases_lt}
 use Rattle.std.proofs.lemmas.List.{append-nil, length-map, map-append, take_all}
 use Rattle.std.proofs.lemmas.List.Sums.{sum_by-cons, sum_by-take-le}
-use Rattle.std.proofs.lemmas.Option.{same_Some, slice_get_within, slice_get_read}
+use Rattle.std.proofs.lemmas.Option.{same_Some, slice_get_within}
+use Rattle.std.proofs.lemmas.List.FromFn.{length-range_with_len}
 use Rattle.lucy_word.specs.Bits.{Bits, IsWord}
 use Rattle.lucy_word.specs.Sampling.{IsOn}
+use Rattle.lucy_host.proofs.Elements.{get_there}
 use Rattle.lucy_place.specs.declared.placed.PlacedNode.{PlacedNode}
 use Rattle.lucy_place.specs.declared.entry.CallSite.{CallSite}
 use Rattle.lucy_place.specs.Proper.{at_one, AreProper}
@@ -30,11 +32,9 @@ use Rattle.lucy_flat.specs.Instances.{index_at, word_at}
 use Rattle.lucy_flat.proofs.Parts.{called, base_clock}
 use Rattle.lucy_kahn.proofs.Tables.{below_take, calls_below, total_law}
 use Rattle.lucy_kahn.proofs.SizeLaws.{below_more}
-use Rattle.lucy_kahn.proofs.JoinedLists.{there}
 use Rattle.lucy_flat.specs.Clocked.{AreClocked}
 use Rattle.lucy_flat.proofs.InstanceLaws.{word_is}
 use Rattle.lucy_flat.specs.Drafts.{inside, AreMade, own_spots, calls_spots, instance_spots, IsFit, AreFit, ArePut, CanBeFlattened, IsInstanceAt, IsInstance, AreBegins, ArePlacesPut, ArePutSoFar}
-use Rattle.lucy_flat.proofs.ProperLaws.{length_row}
 use Rattle.lucy_flat.proofs.MadeLaws.{made_length, made_append}
 
 -- how many actors the instances of calls have, by the table
@@ -75,7 +75,7 @@ inner_length nodes known d path call (s ∷ sites) h below =
     omega (arith, a, b, c))
 
 pub own_length : (path : List ℕ) (n : PlacedNode) → length (own_spots path n) ≡ length n.places
-own_length path n = length-map (range_with_len 1 (length n.places)) (at path) ∙ length_row 1 (length n.places)
+own_length path n = length-map (range_with_len 1 (length n.places)) (at path) ∙ length-range_with_len 1 (length n.places)
 
 -- the instance places of an instance are its own and those of its calls
 own_inside : (path ps : List ℕ) → map (inside path) (map (at []) ps) ≡ map (at path) ps
@@ -101,7 +101,7 @@ module _ (nodes : List PlacedNode) (proper : AreProper nodes) where
 
   pub instance_length : (path : List ℕ) (node : ℕ) → node < length nodes → length (instance_spots nodes path node) ≡ size_of nodes node
   instance_length path node within =
-      let n = there nodes node within in
+      let n = get_there nodes node within in
       length-map (spots_of nodes node) (inside path) ∙ length_spots nodes proper (suc node) node n.0 (omega arith) n.1
 
   pub front_length : (path : List ℕ) (node : ℕ) (n : PlacedNode) (i : ℕ) → slice_get nodes node ≡ Some n →
@@ -212,7 +212,7 @@ module _ (nodes : List PlacedNode) (clocks : List NodeClock) where
         is_called = (c, site, refl, here, begin_is ∙ sym is.begins, args_is);
       }
 
-  -- how many drafts there are
+  -- how many drafts get_there are
   pub so_far_length : AreProper nodes → (path : List ℕ) (n : PlacedNode) (node i : ℕ) (old new : List Draft) → slice_get nodes node ≡ Some n → ArePutSoFar nodes clocks path n i old new → length new ≡ length old + call_offset nodes (Some n) (suc i)
   so_far_length proper path n node i old new e are =
       let back : suc i - 1 ≡ i = omega arith in
@@ -254,7 +254,3 @@ pub call_word : (nodes : List PlacedNode) (clocks : List NodeClock) → AreClock
 call_word nodes clocks clocked path node n clock i places words w index e f words_are places_are l got_word =
     let k : length n.places + suc i ≡ places + 1 + i = omega (arith, places_are) in
     ap (word_at nodes clocks path) k ∙ word_is nodes clocks path node clock index f (places + 1 + i) words w words_are (call_bound nodes clocks clocked node n clock i places words e f words_are places_are l) got_word
-
--- a call among those of a node
-pub site_at : (n : PlacedNode) (sites : List CallSite) (i : ℕ) (site : CallSite) → sites ≡ n.calls → i < length sites → site ≡ get_or sites i site → slice_get n.calls i ≡ Some site
-site_at n sites i site e l f = ap (λ t. slice_get t i) (sym e) ∙ slice_get_read sites (length sites) i site refl l f

@@ -1,19 +1,20 @@
 -- Every sampling is read: it has no name, and each place without a name is read once.
-use Rattle.std.proofs.Common.{ℕ, suc, zero, ◌-◌, ◌≤◌, ◌≡◌, List, [], ◌∷◌, Option, Some, None, map, ap, sym, refl, ◌∙◌, subst, inl, inr, arith}
+use Rattle.std.proofs.Common.{ℕ, suc, zero, ◌-◌, ◌≡◌, List, [], ◌∷◌, Option, Some, None, map, ap, sym, refl, ◌∙◌, subst, inl, inr, arith}
 use Rattle.std.specs.Prelude.{slice_get, slice_index_or}
 use Rattle.std.proofs.lemmas.Option.{same_Some, slice_get_within}
 use Rattle.lucy_word.specs.Bits.{Bits}
+use Rattle.lucy_host.proofs.Elements.{get_there, get_map}
 use Rattle.lucy_place.specs.declared.placed.PlacedNode.{PlacedNode}
 use Rattle.lucy_place.specs.declared.entry.CallSite.{CallSite}
 use Rattle.lucy_place.specs.declared.entry.PlaceKind.{PlaceKind}
 use Rattle.lucy_place.specs.declared.entry.PlaceKind.TheVariants as place_kind
-use Rattle.lucy_place.specs.Proper.{at_one, Stands, IsProperKind, IsLabelled, AreProper, operands_of, arguments_of, reads_of}
+use Rattle.lucy_place.specs.Proper.{at_one, Stands, IsLabelled, AreProper, operands_of, arguments_of, reads_of}
+use Rattle.lucy_place.proofs.NodeLaws.{only_param}
 use Rattle.lucy_net.specs.declared.kind.ActorKind.TheVariants.{When, Output}
 use Rattle.lucy_clock.specs.declared.node_clock.NodeClock.{NodeClock}
 use Rattle.lucy_kahn.specs.Spots.{Spot, at, site_in, node_at, kind_at, spot_form, argument, spot_reads}
 use Rattle.lucy_kahn.specs.Numbers.{number}
 use Rattle.lucy_kahn.proofs.Parts.{callee_in, kind_in, kind_of}
-use Rattle.lucy_kahn.proofs.JoinedLists.{there}
 use Rattle.lucy_kahn.proofs.Paths.{proper_at}
 use Rattle.lucy_kahn.proofs.Closed.{get_take}
 use Rattle.lucy_flat.specs.declared.draft.Draft.{Draft}
@@ -22,11 +23,6 @@ use Rattle.lucy_flat.specs.Clocked.{AreClocked}
 use Rattle.lucy_flat.specs.Drafts.{AreDrafts}
 use Rattle.lucy_flat.proofs.AssemblyLaws.{present}
 use Rattle.lucy_flat.proofs.FlatLaws.{standing, which}
-
-get_map : {A B : Type 0} (f : A → B) (xs : List A) (k : ℕ) (x : A) → slice_get xs k ≡ Some x → slice_get (map f xs) k ≡ Some (f x)
-get_map f [] k x e = absurd (cc e)
-get_map f (y ∷ xs) zero x e = ap (λ t. Some (f t)) (same_Some y x e)
-get_map f (y ∷ xs) (suc k) x e = get_map f xs k x e
 
 -- an actor that samples is that of a sampling
 when_kind : (path : List ℕ) (place : ℕ) (kind : PlaceKind) (p : Bits) → actor_of (spot_form (at path place) kind) ≡ When p → (e : ℕ) × (w : Bits) × (kind ≡ place_kind.When e w)
@@ -41,19 +37,6 @@ when_kind path place (place_kind.Merge w a b) p is = absurd (cc is)
 when_kind path place (place_kind.Fby l e) p is = absurd (cc is)
 when_kind path place (place_kind.Buffer k e) p is = absurd (cc is)
 when_kind path place (place_kind.Result c j) p is = absurd (cc is)
-
--- what stands among the parameters is one
-only_param : (n : PlacedNode) (p : ℕ) (kind : PlaceKind) → p ≤ n.params → IsProperKind n p kind → kind ≡ place_kind.Param
-only_param n p place_kind.Param low is = refl
-only_param n p (place_kind.Defined e) low is = absurd (let high = is.0 in omega arith)
-only_param n p (place_kind.Lit l) low is = absurd (omega (arith, low, is))
-only_param n p (place_kind.Op op args) low is = absurd (let high = is.0 in omega arith)
-only_param n p (place_kind.Host op a b) low is = absurd (let high = is.0 in omega arith)
-only_param n p (place_kind.When e w) low is = absurd (let high = is.0 in omega arith)
-only_param n p (place_kind.Merge w a b) low is = absurd (let high = is.0 in omega arith)
-only_param n p (place_kind.Fby l e) low is = absurd (let high = is.0 in omega arith)
-only_param n p (place_kind.Buffer k e) low is = absurd (let high = is.0 in omega arith)
-only_param n p (place_kind.Result c j) low is = absurd (let high = is.0 in omega arith)
 
 module _ (nodes : List PlacedNode) (proper : AreProper nodes) where
   -- an instance place that reads another
@@ -86,7 +69,7 @@ module _ (nodes : List PlacedNode) (proper : AreProper nodes) where
       let within = slice_get_within site.args k place got in
       let few = of_callee.params in
       let count = is.arguments in
-      let entry = there is.callee.places k (omega arith) in
+      let entry = get_there is.callee.places k (omega arith) in
       let param : entry.0.kind ≡ place_kind.Param = only_param is.callee (suc k) entry.0.kind (omega arith) (of_callee.kinds (suc k) entry.0 entry.1) in
       let back : suc k - 1 ≡ k = omega arith in
       let arg : slice_index_or site.args k 0 ≡ place = same_Some (slice_index_or site.args k 0) place (sym (present site.args k within) ∙ got) in

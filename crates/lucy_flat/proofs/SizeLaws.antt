@@ -3,12 +3,12 @@ use Rattle.std.proofs.Common.{ℕ, suc, zero, ◌+◌, ◌-◌, ◌<◌, ◌≤�
 use Rattle.std.specs.Prelude.{sum, sum_by, slice_get}
 use Rattle.std.proofs.lemmas.List.Sums.{sum_by-cons}
 use Rattle.std.proofs.lemmas.Option.{same_Some}
+use Rattle.lucy_host.proofs.Elements.{get_there}
 use Rattle.lucy_place.specs.declared.entry.PlaceEntry.{PlaceEntry}
 use Rattle.lucy_place.specs.declared.entry.PlaceKind.{PlaceKind}
 use Rattle.lucy_place.specs.declared.entry.PlaceKind.TheVariants.{Param, Defined, Lit, Op, Host, When, Merge, Fby, Buffer, Result}
 use Rattle.lucy_place.specs.Proper.{at_one}
 use Rattle.lucy_flat.specs.Extents.{size_in}
-use Rattle.lucy_kahn.proofs.JoinedLists.{there}
 use Rattle.lucy_flat.proofs.ExtentLaws.{sum_take}
 
 -- sums
@@ -100,8 +100,8 @@ module _ (places : List PlaceEntry) (buffers sizes : List ℕ) (count : length s
       size_none (Buffer j q) = refl
       size_none (Result c j) = refl
   sizes_to (suc k) l =
-      let x = there sizes k (omega (arith, l)) in
-      let b = there buffers k (omega (arith, l, count)) in
+      let x = get_there sizes k (omega (arith, l)) in
+      let b = get_there buffers k (omega (arith, l, count)) in
       let is = there_is (suc k) b.0 b.1 in
       step k x.0 b.0 x.1 b.1 is (sizes_to k (omega (arith, l)))
     where

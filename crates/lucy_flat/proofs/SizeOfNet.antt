@@ -6,6 +6,7 @@ use Rattle.std.proofs.lemmas.List.{length-map}
 use Rattle.std.proofs.lemmas.List.Sums.{sum_by-cons, sum_by-append}
 use Rattle.std.proofs.lemmas.List.Concat.{length-flat_map}
 use Rattle.std.proofs.lemmas.Option.{same_Some, slice_get_within, get_or_from_slice_get, slice_get-map}
+use Rattle.std.proofs.lemmas.List.FromFn.{length-range_with_len}
 use Rattle.lucy_word.specs.Bits.{Bits}
 use Rattle.lucy_word.specs.Shortest.{Same}
 use Rattle.lucy_word.specs.Sampling.{IsOn}
@@ -28,12 +29,13 @@ use Rattle.lucy_net.proofs.NetLaws.{from_here, to_here}
 use Rattle.lucy_kahn.specs.Spots.{Spot, at, main_of, kind_at, spot_form, spot_reads, results_in}
 use Rattle.lucy_kahn.specs.Sizes.{total_of, all_places}
 use Rattle.lucy_kahn.specs.Numbers.{number}
-use Rattle.lucy_kahn.proofs.JoinedLists.{there}
 use Rattle.lucy_kahn.proofs.Numbered.{number_reached}
 use Rattle.lucy_flat.specs.Instances.{index_at, IsSpotWord}
 use Rattle.lucy_flat.specs.Flat.{fires_at, ring_size, IsFlat, WouldBeFlat}
 use Rattle.lucy_flat.specs.Counts.{own_rings, own_sizes, last_of, outputs_of, actors_of, rings_of, slots_of, IsPassedBy, NetPasses}
 use Rattle.lucy_word.specs.declared.limit.Limit.{Limit}
+use Rattle.lucy_word.proofs.Lists.{only_one}
+use Rattle.lucy_host.proofs.Elements.{get_there}
 use Rattle.lucy_flat.specs.Clocked.{AreClocked}
 use Rattle.lucy_flat.specs.Drafts.{instance_spots}
 use Rattle.lucy_flat.proofs.CountLaws.{reads_at, size_at, reads_by, size_by, kind_slots, total_reads, total_sizes}
@@ -41,8 +43,8 @@ use Rattle.lucy_flat.proofs.SizeLaws.{sum_add}
 use Rattle.lucy_flat.proofs.SpotLaws.{spot_at, whole_length}
 use Rattle.lucy_flat.proofs.SpotWords.{spot_same, feeds}
 use Rattle.lucy_flat.proofs.RingWords.{form_back}
-use Rattle.lucy_flat.proofs.FlatLaws.{standing, main_spot, only_one}
-use Rattle.lucy_flat.proofs.OneNet.{row_length, one_size, taken_by}
+use Rattle.lucy_flat.proofs.FlatLaws.{standing, main_spot}
+use Rattle.lucy_flat.proofs.OneNet.{one_size, taken_by}
 
 -- a sum over a list whose front goes with another list, and behind it counts one each
 sum_ones : {X : Type 0} (f : X → ℕ) (xs : List X) → ((i : ℕ) (x : X) → slice_get xs i ≡ Some x → f x ≡ 1) → sum_by f xs ≡ length xs
@@ -100,11 +102,11 @@ none_more n = omega arith
 -- the sums over all instance places
 by_nodes : (nodes : List PlacedNode) (clocks : List NodeClock) → AreProper nodes → AreClocked nodes clocks → sum_by (reads_at nodes clocks) (instance_spots nodes [] (last_of nodes)) ≡ total_of own_rings nodes (last_of nodes)
 by_nodes [] clocks proper clocked = refl
-by_nodes (n ∷ nodes) clocks proper clocked = (let main = there (n ∷ nodes) (last_of (n ∷ nodes)) (omega arith) in total_reads (n ∷ nodes) clocks proper clocked (length (n ∷ nodes)) [] main.0 main.1 (omega arith) ∙ none_more (total_of own_rings (n ∷ nodes) (last_of (n ∷ nodes))))
+by_nodes (n ∷ nodes) clocks proper clocked = (let main = get_there (n ∷ nodes) (last_of (n ∷ nodes)) (omega arith) in total_reads (n ∷ nodes) clocks proper clocked (length (n ∷ nodes)) [] main.0 main.1 (omega arith) ∙ none_more (total_of own_rings (n ∷ nodes) (last_of (n ∷ nodes))))
 
 sizes_by : (nodes : List PlacedNode) (clocks : List NodeClock) → AreProper nodes → AreClocked nodes clocks → sum_by (size_at nodes clocks) (instance_spots nodes [] (last_of nodes)) ≡ total_of (own_sizes clocks) nodes (last_of nodes)
 sizes_by [] clocks proper clocked = refl
-sizes_by (n ∷ nodes) clocks proper clocked = (let main = there (n ∷ nodes) (last_of (n ∷ nodes)) (omega arith) in total_sizes (n ∷ nodes) clocks proper clocked (length (n ∷ nodes)) [] main.0 main.1 (omega arith))
+sizes_by (n ∷ nodes) clocks proper clocked = (let main = get_there (n ∷ nodes) (last_of (n ∷ nodes)) (omega arith) in total_sizes (n ∷ nodes) clocks proper clocked (length (n ∷ nodes)) [] main.0 main.1 (omega arith))
 
 module _ (nodes : List PlacedNode) (clocks : List NodeClock) (proper : AreProper nodes) (clocked : AreClocked nodes clocks) (net : Net) (flat : WouldBeFlat nodes clocks net) where
   abbrev places : List Spot
@@ -147,7 +149,7 @@ module _ (nodes : List PlacedNode) (clocks : List NodeClock) (proper : AreProper
   output_actor i x e =
       let at_i : length places + i ≡ all_places nodes + i = ap (λ n. n + i) (whole_length nodes proper) in
       let here : slice_get net.actors (all_places nodes + i) ≡ Some x = ap (slice_get net.actors) (sym at_i) ∙ e in
-      let place = there (results_in (main_of nodes)) i (omega (arith, slice_get_within net.actors (all_places nodes + i) x here, flat.count)) in
+      let place = get_there (results_in (main_of nodes)) i (omega (arith, slice_get_within net.actors (all_places nodes + i) x here, flat.count)) in
       let a = flat.outputs i place.0 place.1 in
       let is : a.actor ≡ x = same_Some a.actor x (sym a.there ∙ here) in
       subst (λ t. IsOutputActor t i) is (record { place = place.0; result = place.1; there = a.there; form = ap form_of a.kind; reads = a.reads; firing = a.firing })
@@ -163,7 +165,7 @@ module _ (nodes : List PlacedNode) (clocks : List NodeClock) (proper : AreProper
   rings_count =
       let all = two_parts (λ (x : Actor). length x.takes) (reads_at nodes clocks) net.actors places (outputs_of nodes) count
       (λ i x s e f. (let p = place_actor i x s e f in p.reads ∙ sym (ap (reads_by nodes s) p.stands))) (λ i x e. one_taken x i (output_actor i x e)) in
-      sym (row_length 0 (length net.rings)) ∙ ap length (sym flat.rings) ∙ length-flat_map (λ (x : Actor). x.takes) net.actors ∙ all ∙ ap (λ n. n + outputs_of nodes) total_places
+      sym (length-range_with_len 0 (length net.rings)) ∙ ap length (sym flat.rings) ∙ length-flat_map (λ (x : Actor). x.takes) net.actors ∙ all ∙ ap (λ n. n + outputs_of nodes) total_places
 
   -- the ring of a number that an actor takes
   record IsTakenRing (a r : ℕ) : Type 0 where
@@ -177,7 +179,7 @@ module _ (nodes : List PlacedNode) (clocks : List NodeClock) (proper : AreProper
       let l = slice_get_within x.takes k r f in
       let here : get_or x.takes k 0 ≡ r = get_or_from_slice_get x.takes k r 0 f in
       let low : All (λ (s : ℕ). s < length net.rings) x.takes = subst (All (λ (s : ℕ). s < length net.rings)) (sym is.takes) (where_all (λ s. s < length net.rings) (λ s. eqb (taker net s) a) (length net.rings) (λ s h y. h)) in
-      let ring = there net.rings r (subst (λ s. s < length net.rings) here (low k 0 l)) in
+      let ring = get_there net.rings r (subst (λ s. s < length net.rings) here (low k 0 l)) in
       record { ring = ring.0; there = ring.1; to = sym (to_here net r ring.0 ring.1) ∙ taken_by net a r k x is l here }
 
   -- the slots of what an actor takes

@@ -1,7 +1,6 @@
 -- How the words of an instance place and of what it reads hang together.
 use Rattle.std.proofs.Common.{ℕ, suc, zero, ◌+◌, ◌-◌, ◌<◌, ◌≤◌, ◌≡◌, true, List, [], ◌∷◌, Option, Some, None, length, map, take, drop, ap, sym, refl, ◌∙◌, subst, inl, inr, arith}
 use Rattle.std.specs.Prelude.{slice_get, slice_index_or, option_map, ◌⊎◌}
-use Rattle.std.specs.List.{AllByRecursion}
 use Rattle.std.proofs.lemmas.Option.{same_Some, slice_get_within, slice_get-map, slice_get-get_or}
 use Rattle.lucy_word.specs.Bits.{Bits, IsWord}
 use Rattle.lucy_word.specs.Shortest.{Same}
@@ -23,13 +22,14 @@ use Rattle.lucy_kahn.specs.Spots.{Spot, at, site_in, node_at, argument, result_p
 use Rattle.lucy_kahn.proofs.Parts.{callee_in}
 use Rattle.lucy_flat.specs.Instances.{index_at, words_in, sizes_in, word_at, IsBase, IsSpotWord}
 use Rattle.lucy_flat.proofs.Parts.{called, base_clock}
-use Rattle.lucy_kahn.proofs.JoinedLists.{there}
 use Rattle.lucy_kahn.proofs.Closed.{get_take}
 use Rattle.std.proofs.lemmas.List.{length-take}
 use Rattle.lucy_clock.specs.declared.node_clock.NodeClock.{NodeClock}
 use Rattle.lucy_flat.specs.Clocked.{AreClocked, IsClock}
 use Rattle.lucy_clock.specs.NodeClocks.{signatures, ports}
 use Rattle.lucy_word.specs.Always.{always}
+use Rattle.lucy_word.proofs.Lists.{all_at}
+use Rattle.lucy_host.proofs.Elements.{get_there}
 
 -- the place reads places of its own instance alone
 abbrev pub IsOwn : PlaceKind → Type 0
@@ -71,11 +71,6 @@ map_at : (path : List ℕ) (xs : List ℕ) (k : ℕ) (s : Spot) → slice_get (m
 map_at path [] k s e = absurd (cc e)
 map_at path (x ∷ xs) zero s e = (x, refl, same_Some (at path x) s e)
 map_at path (x ∷ xs) (suc k) s e = map_at path xs k s e
-
-pub all_at : {A : Type 0} (P : A → Type 0) (xs : List A) (i : ℕ) (x : A) → AllByRecursion P xs → slice_get xs i ≡ Some x → P x
-all_at P [] i x all e = absurd (cc e)
-all_at P (y ∷ xs) zero x all e = subst P (same_Some y x e) all.0
-all_at P (y ∷ xs) (suc i) x all e = all_at P xs i x all.1 e
 
 sig_at : (ns : List PlacedNode) (cs : List NodeClock) (i : ℕ) (n : PlacedNode) (c : NodeClock) → slice_get ns i ≡ Some n → slice_get cs i ≡ Some c → slice_get (signatures ns cs) i ≡ Some (ports n c)
 sig_at [] cs i n c e f = absurd (cc e)
@@ -120,7 +115,7 @@ module _ (nodes : List PlacedNode) (clocks : List NodeClock) (proper : AreProper
   clock_of path n e =
       let at_index : slice_get nodes (index_at nodes path) ≡ Some n = index_found path n e in
       let within = slice_get_within nodes (index_at nodes path) n at_index in
-      let c = there clocks (index_at nodes path) (omega (arith, within, clocked.count)) in
+      let c = get_there clocks (index_at nodes path) (omega (arith, within, clocked.count)) in
       record {
         clock = c.0;
         found = at_index;

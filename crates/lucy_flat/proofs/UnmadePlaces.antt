@@ -31,6 +31,7 @@ use Rattle.lucy_flat.proofs.SpotWords.{clock_of, base_word}
 use Rattle.lucy_flat.proofs.InstanceLaws.{found_at, kind_here, kind_is, made_here, fit_here, merge_here}
 use Rattle.lucy_flat.proofs.KeptLaws.{kept_past}
 use Rattle.lucy_clock.proofs.UnmadeLaws.{stored_on}
+use Rattle.lucy_net.proofs.Steps.{le_same}
 
 -- a place reads few others
 pub reads_few : (nodes : List PlacedNode) (n : PlacedNode) (path : List ℕ) (place : ℕ) (kind : PlaceKind) → IsProperKind n place kind → length (spot_reads nodes (at path place) kind) ≤ 3
@@ -46,9 +47,6 @@ reads_few nodes n path place (place_kind.Fby l e) is = omega arith
 reads_few nodes n path place (place_kind.Buffer k e) is = omega arith
 reads_few nodes n path place (place_kind.Result c j) is = omega arith
 
-pub within_self : (n : ℕ) → n ≤ n
-within_self n = omega arith
-
 pub few_small : (n : ℕ) → n ≤ 3 → n < 9223372036854775808
 few_small n few = omega (arith, few)
 
@@ -60,7 +58,7 @@ list_of there numbers few = record {
   cap = length numbers;
   alloc = there.alloc;
   items = numbers;
-  ok = (refl, within_self (length numbers));
+  ok = (refl, le_same (length numbers));
   small = few_small (length numbers) few;
 }
 

@@ -12,10 +12,10 @@ ghost use Rattle.lucy_flat.specs.Assembly.{reads_count, all_reads, IsReadOn, Rea
 use crate::draft::Draft;
 use crate::error::FlatError;
 use crate::held::{Held, hold, is_past};
-use crate::words::{copied, sampled, test_sampled, turned};
+use crate::words::{sampled, test_sampled};
 use lucy_net::{Actor, ActorKind, Actors, Net, Numbers, RingSpec, Rings};
-use lucy_word::{Limit, Word, words_are_stored};
-use std::alloc::Global;
+use lucy_word::{Limit, Word, turned, words_are_stored};
+use std::alloc::{AllocError, Global};
 
 // The word on which an actor takes an operand: a sampling when it is written, a merge where its word says so.
 fn read_word(alloc: Global, taker: &Draft, operand: usize, write: &Word) -> Result<Word, FlatError>
@@ -28,13 +28,13 @@ fn read_word(alloc: Global, taker: &Draft, operand: usize, write: &Word) -> Resu
     ensures refused { IfErr result (λ e. (e ≡ err.OutOfMemory) ⊎ ((e ≡ err.Limit lim.Word) × ReadsTooLong taker.now.kind operand taker.now.word)) }
 {
     match &taker.kind {
-        ActorKind::When(_) => copied(alloc, write),
+        ActorKind::When(_) => Ok(write.copy(alloc)?),
         ActorKind::Merge(word) if operand == 0 => sampled(alloc, &taker.word, word),
         ActorKind::Merge(word) => {
             let other = turned(alloc, word)?;
             sampled(alloc, &taker.word, &other)
         }
-        _ => copied(alloc, &taker.word),
+        _ => Ok(taker.word.copy(alloc)?),
     }
 }
 
@@ -70,7 +70,7 @@ fn ring_of(
 {
     let taker = &drafts[to];
     let from = taker.reads[operand];
-    let write = copied(alloc, &drafts[from as usize].word)?;
+    let write = drafts[from as usize].word.copy(alloc)?;
     let read = read_word(alloc, taker, operand, &write)?;
     Ok(RingSpec {
         from,
@@ -171,13 +171,12 @@ fn firing(
     word: Word,
     first: u32,
     rings: &[RingSpec],
-) -> Result<Word, FlatError>
+) -> Result<Word, AllocError>
     requires { IsSampling kind.now → first < length rings.now }
-    ensures ok { IfOk result (IsFiring kind.now word (slice_get rings.now first)) }
-    ensures refused { IfErr result (λ e. e ≡ err.OutOfMemory) }
+    ensures { IfOk result (IsFiring kind.now word (slice_get rings.now first)) }
 {
     match kind {
-        ActorKind::When(_) => copied(alloc, &rings[first as usize].write),
+        ActorKind::When(_) => rings[first as usize].write.copy(alloc),
         _ => Ok(word),
     }
 }

@@ -17,7 +17,7 @@ use crate::error::FlatError;
 use crate::extent::passed;
 use crate::instance::{Program, put_instance};
 use crate::kept::{Kept, keep};
-use crate::words::{bits, copied};
+use crate::words::bits;
 use lucy_clock::NodeClock;
 use lucy_kahn::sizes;
 use lucy_need::always;
@@ -47,7 +47,7 @@ fn put_outputs(
         let place = results[i];
         let word = &words[place as usize];
         words_are_stored(word);
-        let word = copied(alloc, word)?;
+        let word = word.copy(alloc)?;
         let mut reads = Vec::new(alloc);
         reads.push(place - 1)?;
         let next = Draft {

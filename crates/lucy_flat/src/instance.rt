@@ -20,12 +20,12 @@ ghost use Rattle.lucy_place.specs.declared.entry.PlaceKind.{PlaceKind as Kind};
 use crate::draft::Draft;
 use crate::error::FlatError;
 use crate::kept::{Kept, is_past, keep};
-use crate::words::{copied, own_word, sampled, test_place};
+use crate::words::{own_word, sampled, test_place};
 use lucy_clock::NodeClock;
 use lucy_net::ActorKind;
 use lucy_place::{CallSite, PlaceKind, Placed, PlacedNode, literal_value};
 use lucy_word::Word;
-use std::alloc::Global;
+use std::alloc::{AllocError, Global};
 
 /// A program with its words, and the sizes of its nodes.
 #[derive(Clone, Copy)]
@@ -54,18 +54,17 @@ pub(crate) struct Instance<'a> {
     pub inner: &'a [u32],
 }
 
-fn kind(alloc: Global, kind: &PlaceKind, place: u32, main: bool) -> Result<ActorKind, FlatError>
+fn kind(alloc: Global, kind: &PlaceKind, place: u32, main: bool) -> Result<ActorKind, AllocError>
     requires { 1 ≤ place }
-    ensures ok { (path : List ℕ) → (IsTrue main → path ≡ []) → (path ≡ [] → IsTrue main) → IfOk result (λ k. k ≡ actor_of (spot_form (at path place) kind.now)) }
-    ensures refused { IfErr result (λ e. e ≡ err.OutOfMemory) }
+    ensures { (path : List ℕ) → (IsTrue main → path ≡ []) → (path ≡ [] → IsTrue main) → IfOk result (λ k. k ≡ actor_of (spot_form (at path place) kind.now)) }
 {
     Ok(match kind {
         PlaceKind::Param if main => ActorKind::Input(place - 1),
         PlaceKind::Lit(lit) => ActorKind::Lit(literal_value(*lit)),
         PlaceKind::Op(op, _) => ActorKind::Op(*op),
         PlaceKind::Host(op, _, _) => ActorKind::Host(*op),
-        PlaceKind::When(_, word) => ActorKind::When(copied(alloc, word)?),
-        PlaceKind::Merge(word, _, _) => ActorKind::Merge(copied(alloc, word)?),
+        PlaceKind::When(_, word) => ActorKind::When(word.copy(alloc)?),
+        PlaceKind::Merge(word, _, _) => ActorKind::Merge(word.copy(alloc)?),
         PlaceKind::Fby(first, _) => ActorKind::Fby(literal_value(*first)),
         _ => ActorKind::Pass,
     })

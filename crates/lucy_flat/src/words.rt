@@ -1,8 +1,6 @@
 // Words on words.
 ghost use Rattle.std.specs.Prelude.{◌≡◌, ◌⊎◌, ◌≤◌, IfOk, IfErr, OnOk};
-ghost use Rattle.lucy_tree.specs.Shaped.{HasZero};
 ghost use Rattle.lucy_word.specs.Bits.{bit_count};
-ghost use Rattle.lucy_word.specs.Complement.{turned as turned_word};
 ghost use Rattle.lucy_word.specs.Stored.{IsStored};
 ghost use Rattle.lucy_word.specs.Sampling.{IsOn, IsOnTooLong};
 ghost use Rattle.lucy_word.specs.Limits.{limit_number};
@@ -14,16 +12,8 @@ ghost use Rattle.lucy_flat.specs.Drafts.{HasTooLong};
 use crate::error::FlatError;
 use lucy_clock::{is_too_long, test_handed};
 use lucy_place::PlaceKind;
-use lucy_word::{Limit, Word, WordError, complement, on};
+use lucy_word::{Limit, Word};
 use std::alloc::Global;
-
-/// The word as one of its own.
-pub(crate) fn copied(alloc: Global, word: &Word) -> Result<Word, FlatError>
-    ensures ok { IfOk result (λ w. w ≡ word.now) }
-    ensures refused { IfErr result (λ e. e ≡ err.OutOfMemory) }
-{
-    Ok(word.copy(alloc)?)
-}
 
 /// A clock on a word.
 pub(crate) fn sampled(alloc: Global, own: &Word, word: &Word) -> Result<Word, FlatError>
@@ -32,24 +22,9 @@ pub(crate) fn sampled(alloc: Global, own: &Word, word: &Word) -> Result<Word, Fl
     ensures stored { IfOk result IsStored }
     ensures refused { IfErr result (λ e. (e ≡ err.OutOfMemory) ⊎ ((e ≡ err.Limit lim.Word) × IsOnTooLong own.now word.now)) }
 {
-    match on(alloc, own, word) {
-        Ok(word) => Ok(word),
-        Err(WordError::TooLong) => Err(FlatError::Limit(Limit::Word)),
-        Err(WordError::OutOfMemory) => Err(FlatError::OutOfMemory),
-        Err(WordError::BadWord(_) | WordError::NoOne) => unreachable!(),
-    }
-}
-
-/// A word with every bit turned, where that has a one in its period.
-pub(crate) fn turned(alloc: Global, word: &Word) -> Result<Word, FlatError>
-    requires { HasZero word.now }
-    ensures ok { IfOk result (λ w. w ≡ turned_word word.now) }
-    ensures refused { IfErr result (λ e. e ≡ err.OutOfMemory) }
-{
-    match complement(alloc, word) {
-        Ok(turned) => Ok(turned),
-        Err(WordError::OutOfMemory) => Err(FlatError::OutOfMemory),
-        Err(_) => unreachable!(),
+    match lucy_word::sampled(alloc, own, word)? {
+        Some(word) => Ok(word),
+        None => Err(FlatError::Limit(Limit::Word)),
     }
 }
 

@@ -15,8 +15,7 @@ use lucy_program::{Accepted, accepted_programs_are_clocked};
 use lucy_results::run_net_by_turns;
 use lucy_run::copy_net;
 use lucy_runner::Seat;
-use lucy_word::OutOfMemory;
-use std::alloc::Global;
+use std::alloc::{AllocError, Global};
 use std::sync::Wait;
 use std::thread::Threads;
 
@@ -30,7 +29,7 @@ pub(crate) fn play_freely<R: Threads + Wait + Sync, F: Fn(u32, i64, i64) -> i64 
     inputs: Inputs,
     instants: u64,
     workers: u32,
-) -> Result<Inputs, OutOfMemory>
+) -> Result<Inputs, AllocError>
     requires serves { Serves F.pre F.post host.now }
     requires can { CanBePlayed (lent host.now) accepted.now inputs instants workers }
     ensures { IsPlayedTo (lent host.now) accepted.now inputs instants result }
@@ -40,7 +39,7 @@ pub(crate) fn play_freely<R: Threads + Wait + Sync, F: Fn(u32, i64, i64) -> i64 
     // A net that has a schedule is refused for want of memory alone.
     let schedule = match schedule_of(alloc, &net) {
         Ok(schedule) => schedule,
-        Err(_) => return Err(OutOfMemory),
+        Err(_) => return Err(AllocError),
     };
     let Beds { parkers, wakers } = Beds::new(alloc, workers)?;
     let (parkers, wakers) = (parkers.as_slice(), wakers.as_slice());

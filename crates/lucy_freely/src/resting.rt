@@ -1,7 +1,6 @@
 // Where workers rest. Nothing is claimed of it.
 use crossbeam_utils::sync::{Parker, Unparker};
-use lucy_word::OutOfMemory;
-use std::alloc::Global;
+use std::alloc::{AllocError, Global};
 use std::sync::{Mutex, Wait};
 use std::thread;
 
@@ -14,14 +13,14 @@ pub(crate) struct Beds {
 
 impl Beds {
     /// So many.
-    pub(crate) fn new(alloc: Global, workers: u32) -> Result<Beds, OutOfMemory> {
+    pub(crate) fn new(alloc: Global, workers: u32) -> Result<Beds, AllocError> {
         let mut parkers = Vec::new(alloc);
         let mut wakers = Vec::new(alloc);
         for _ in 0..workers {
             let parker = Parker::new(alloc)?;
             let waker = parker.unparker().clone()?;
             if wakers.push(waker).is_err() || parkers.push(Mutex::new(Some(parker))).is_err() {
-                return Err(OutOfMemory);
+                return Err(AllocError);
             }
         }
         Ok(Beds { parkers, wakers })

@@ -11,8 +11,7 @@ use lucy_app::{ClosureEngine, run_with};
 use lucy_host::{Host, Inputs};
 use lucy_program::Accepted;
 use lucy_text::{Shelf, Sink, Source};
-use lucy_word::OutOfMemory;
-use std::alloc::Global;
+use std::alloc::{AllocError, Global};
 use std::sync::Wait;
 use std::thread::Threads;
 
@@ -59,7 +58,7 @@ pub fn lucy_free<
     let mut engine = ClosureEngine {
         call: |alloc: Global, accepted: &Accepted, lender: &Host<
             F,
-        >, inputs: Inputs, instants: u64, workers: u32| -> Result<Inputs, OutOfMemory>
+        >, inputs: Inputs, instants: u64, workers: u32| -> Result<Inputs, AllocError>
             requires { Serves F.pre F.post lender.now × CanBePlayed (lent lender.now) accepted.now inputs instants workers }
             ensures { IsPlayedTo (lent lender.entry.now) accepted.entry.now inputs instants result }
         { play_freely(rt, alloc, accepted, lender, inputs, instants, workers) },

@@ -2,6 +2,7 @@
 use Rattle.std.proofs.Common.{ℕ, suc, zero, ◌-◌, ◌<◌, ◌≤◌, ◌≡◌, inl, List, [], ◌∷◌, Some, length, map, ap, sym, refl, ◌∙◌, subst, arith}
 use Rattle.std.specs.Prelude.{slice_get, slice_index_or, option_map}
 use Rattle.std.proofs.lemmas.Option.{same_Some, slice_get_within, slice_get-map}
+use Rattle.lucy_host.proofs.Elements.{get_there}
 use Rattle.lucy_stream.specs.Forms.{Given, Constant, Pointwise, Hosted, Kept, Merged, Delayed}
 use Rattle.lucy_place.specs.declared.placed.PlacedNode.{PlacedNode}
 use Rattle.lucy_place.specs.declared.entry.CallSite.{CallSite}
@@ -13,7 +14,6 @@ use Rattle.lucy_place.specs.Proper.{at_one, Stands, IsPlace, ArePlaces, IsProper
 use Rattle.lucy_clock.specs.declared.node_clock.NodeClock.{NodeClock}
 use Rattle.lucy_kahn.specs.Spots.{Spot, at, site_in, node_at, kind_at, IsSpot, argument, result_place, param_form, param_reads, spot_form, spot_reads, form_at, reads_at}
 use Rattle.lucy_kahn.proofs.Parts.{callee_in, kind_of, kind_in, form_if, reads_if}
-use Rattle.lucy_kahn.proofs.JoinedLists.{there}
 use Rattle.lucy_kahn.proofs.Paths.{low_of, proper_at}
 use Rattle.lucy_kahn.proofs.Closed.{get_take, place_of, call_of}
 use Rattle.lucy_freeze.specs.Frozen.{Pair, Renumbering, pair, IsReadFor, SaysSame, IsFrozenPlace, IsFrozenCall, IsFrozenNode, IsFrozenAt, AreFrozen}
@@ -114,7 +114,7 @@ module _ (nodes : List PlacedNode) (clocks : List NodeClock) (frozen : List Plac
         let known : is.callee ≡ inner.n = same_Some is.callee inner.n (sym callee ∙ inner.node) in
         let few : j < length inner.n.results = subst (λ (n : PlacedNode). j < length n.results) known (is.only place j result).1 in
         let deep = proper_at nodes proper (c ∷ path) inner.n inside in
-        let at_j = there inner.n.results j few in
+        let at_j = get_there inner.n.results j few in
         let got : slice_get inner.m.results k ≡ Some (inner.renumbering.place at_j.0) =
         subst (λ x. slice_get inner.m.results x ≡ Some (inner.renumbering.place at_j.0)) (sym also)
         (ap (λ xs. slice_get xs j) inner.is.results ∙ slice_get-map inner.renumbering.place inner.n.results j ∙ ap (λ o. option_map inner.renumbering.place o) at_j.1) in
@@ -155,8 +155,8 @@ module _ (nodes : List PlacedNode) (clocks : List NodeClock) (frozen : List Plac
       let params : p.node.params ≡ is.callee.params = ap (λ (m : PlacedNode). m.params) known in
       let count = is.arguments in
       let also = call.args.count in
-      let arg = there call.site.args (place - 1) (omega arith) in
-      let read = there call.twin.args (place - 1) (omega arith) in
+      let arg = get_there call.site.args (place - 1) (omega arith) in
+      let read = get_there call.twin.args (place - 1) (omega arith) in
       let first : argument (site_in (node_at nodes path) c) place ≡ arg.0 =
       ap (λ o. argument (site_in o c) place) outer.node ∙ ap (λ o. argument o place) call.there ∙ index_is call.site.args (place - 1) arg.0 arg.1 in
       let twins : at_one q.frozen.calls d ≡ Some call.twin = subst (λ x. at_one q.frozen.calls x ≡ Some call.twin) (sym above.3) call.stands in

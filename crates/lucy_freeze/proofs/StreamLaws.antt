@@ -5,6 +5,7 @@ use Rattle.std.specs.List.{range_with_len}
 use Rattle.std.proofs.lemmas.Option.{slice_get-map}
 use Rattle.std.proofs.lemmas.Simd.{map-map}
 use Rattle.lucy_word.specs.Bits.{Bits, ones_to}
+use Rattle.lucy_word.proofs.Lists.{all_at}
 use Rattle.lucy_host.specs.declared.kind.HostKind.{HostKind}
 use Rattle.lucy_stream.specs.Fronts.{IsFront}
 use Rattle.lucy_stream.proofs.FrontLaws.{IsFront-trans}
@@ -17,7 +18,6 @@ use Rattle.lucy_kahn.specs.Sizes.{all_places}
 use Rattle.lucy_kahn.specs.Kahn.{kahn}
 use Rattle.lucy_kahn.specs.Horizons.{Suffice}
 use Rattle.lucy_kahn.proofs.ByNumber.{kahn_later}
-use Rattle.lucy_kahn.proofs.Closed.{each_of}
 use Rattle.lucy_flat.specs.Instances.{words_in}
 use Rattle.lucy_kahn.specs.Turns.{params_in}
 use Rattle.lucy_results.specs.Streams.{main_word, param_words, main_stream, main_streams}
@@ -87,7 +87,7 @@ module _ (nodes : List PlacedNode) (clocks : List NodeClock) (frozen : List Plac
     stream_same : (i place : ℕ) → slice_get main.n.results i ≡ Some place → main_stream kinds inputs frozen frozen_clocks t (main.renumbering.place place) ≡ main_stream kinds inputs nodes clocks t place
     stream_same i place e =
         let own = proper (length nodes - 1) main.n main.node in
-        let is : IsPlace main.n place = each_of (IsPlace main.n) main.n.results i place own.results e in
+        let is : IsPlace main.n place = all_at (IsPlace main.n) main.n.results i place own.results e in
         let turns : ℕ = t * all_places nodes in
         let twin_turns : ℕ = t * all_places frozen in
         let most : ℕ = turns + twin_turns in

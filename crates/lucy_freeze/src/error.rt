@@ -3,7 +3,6 @@ ghost use Rattle.std.specs.Prelude.{◌≡◌};
 ghost use Rattle.lucy_freeze.specs.declared.error.FreezeError.TheVariants as error;
 
 use lucy_front::Refusal;
-use lucy_word::OutOfMemory;
 use std::alloc::AllocError;
 
 /// Why a text has no frozen text.
@@ -23,14 +22,6 @@ impl From<AllocError> for FreezeError {
     ghost from_gives = { λ _ e. e ≡ error.OutOfMemory };
 
     fn from(_: AllocError) -> Self {
-        FreezeError::OutOfMemory
-    }
-}
-
-impl From<OutOfMemory> for FreezeError {
-    ghost from_gives = { λ _ e. e ≡ error.OutOfMemory };
-
-    fn from(_: OutOfMemory) -> Self {
         FreezeError::OutOfMemory
     }
 }

@@ -1,7 +1,6 @@
 // Looks for the places and the calls of a node in another one: what is found is tested afterwards. It is safe.
 use crate::images::{Images, entry_at, site_at};
 use lucy_place::{PlaceEntry, PlaceKind, PlacedNode};
-use lucy_word::OutOfMemory;
 use std::alloc::{AllocError, Global};
 
 // So many numbers, 0 each, and one more.
@@ -112,7 +111,7 @@ pub(crate) fn images_of(
     alloc: Global,
     node: &PlacedNode,
     frozen: &PlacedNode,
-) -> Result<Images, OutOfMemory> {
+) -> Result<Images, AllocError> {
     let mut images = Images {
         places: zeros(alloc, node.places.list().len())?,
         calls: zeros(alloc, node.calls.list().len())?,

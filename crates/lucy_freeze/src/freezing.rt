@@ -13,8 +13,8 @@ use crate::text::{Unwritten, frozen_text};
 use lucy_front::{Refusal, accept};
 use lucy_host::Ops;
 use lucy_program::{Accepted, Options};
-use lucy_word::{Limit, OutOfMemory};
-use std::alloc::Global;
+use lucy_word::Limit;
+use std::alloc::{AllocError, Global};
 
 /// A program with its clocks written out: its text, and what that is accepted as.
 #[derive(Drop)]
@@ -44,7 +44,7 @@ fn checked(alloc: Global, text: &[u8], ops: &Ops, options: &Options) -> Result<A
 }
 
 // Whether a program is another one with its clocks written out.
-fn is_same(alloc: Global, program: &Accepted, frozen: &Accepted) -> Result<bool, OutOfMemory>
+fn is_same(alloc: Global, program: &Accepted, frozen: &Accepted) -> Result<bool, AllocError>
     ensures { IfOk result (λ same. IsTrue same → AreFrozen program.now.placed.nodes program.now.clocks.items frozen.now.placed.nodes frozen.now.clocks.items) }
 {
     is_frozen(

@@ -7,8 +7,7 @@ use crate::node::is_frozen_node;
 use crate::same::Both;
 use lucy_clock::NodeClock;
 use lucy_place::Placed;
-use lucy_word::OutOfMemory;
-use std::alloc::Global;
+use std::alloc::{AllocError, Global};
 
 // Whether the nodes of a number are one node.
 fn is_frozen_at(
@@ -18,7 +17,7 @@ fn is_frozen_at(
     frozen: &Placed,
     frozen_clocks: &[NodeClock],
     node: u32,
-) -> Result<bool, OutOfMemory>
+) -> Result<bool, AllocError>
     requires node { node < length placed.now.nodes }
     requires frozen { node < length frozen.now.nodes }
     ensures { IfOk result (λ same. IsTrue same → IsFrozenAt placed.now.nodes clocks.now frozen.now.nodes frozen_clocks.now node) }
@@ -46,7 +45,7 @@ pub(crate) fn is_frozen(
     clocks: &[NodeClock],
     frozen: &Placed,
     frozen_clocks: &[NodeClock],
-) -> Result<bool, OutOfMemory>
+) -> Result<bool, AllocError>
     ensures { IfOk result (λ same. IsTrue same → AreFrozen placed.now.nodes clocks.now frozen.now.nodes frozen_clocks.now) }
 {
     let nodes = placed.nodes();

@@ -9,7 +9,7 @@ mod writer;
 use lucy_program::Accepted;
 use lucy_syntax::parse;
 use lucy_token::{Token, tokens};
-use lucy_word::{Limit, OutOfMemory};
+use lucy_word::Limit;
 use nodes::put_nodes;
 use sheet::Sheet;
 use std::alloc::{AllocError, Global};
@@ -41,7 +41,7 @@ fn add(lexemes: &mut Vec<Lexeme>, token: &Token<'_>) -> Result<(), AllocError> {
 }
 
 // The tokens of a text, without what they say.
-fn lexemes_of(alloc: Global, text: &[u8]) -> Result<Vec<Lexeme>, OutOfMemory> {
+fn lexemes_of(alloc: Global, text: &[u8]) -> Result<Vec<Lexeme>, AllocError> {
     let mut lexemes = Vec::new(alloc);
     if text.len() as u64 > Limit::Text.number() {
         return Ok(lexemes);

@@ -3,10 +3,11 @@ use Rattle.std.proofs.Common.{ℕ, zero, suc, ◌+◌, ◌-◌, ◌<◌, ◌≤�
 use Rattle.std.specs.Prelude.{◌⊎◌, slice_get, slice_index, sum_by}
 use Rattle.std.specs.List.Sorted.{IsNonDecreasing}
 use Rattle.std.proofs.lemmas.Bool.{cases_lt}
-use Rattle.std.proofs.lemmas.List.{length_push, get_or_append_left, get_or_push}
+use Rattle.std.proofs.lemmas.List.{length_push, get_or_append_left, get_or_push, take_all}
 use Rattle.std.proofs.lemmas.List.Sums.{sum_by-cons}
 use Rattle.std.proofs.lemmas.List.Sorted.{IsNonDecreasingBy-from_default}
-use Rattle.std.proofs.lemmas.Option.{same_Some, slice_get_within}
+use Rattle.std.proofs.lemmas.Option.{same_Some, slice_get_within, slice_get-get_or}
+use Rattle.lucy_word.proofs.Lists.{still_there}
 use Rattle.lucy_place.specs.declared.placed.PlacedNode.{PlacedNode}
 use Rattle.lucy_place.specs.declared.entry.CallSite.{CallSite}
 use Rattle.lucy_kahn.specs.Spots.{at as at_place, node_at, main_of, site_in}
@@ -16,8 +17,8 @@ use Rattle.lucy_kahn.specs.Sizes.{capped, own_places, size_of}
 use Rattle.lucy_kahn.proofs.Tables.{total_law}
 use Rattle.lucy_kahn.proofs.Closed.{place_spot}
 use Rattle.lucy_kahn.specs.Below.{Below}
-use Rattle.lucy_flat.proofs.AssemblyLaws.{get_left, get_last}
-use Rattle.lucy_flat.proofs.ExtentLaws.{got, sum_take, take_whole}
+use Rattle.lucy_flat.proofs.AssemblyLaws.{get_last}
+use Rattle.lucy_flat.proofs.ExtentLaws.{sum_take}
 use Rattle.lucy_program.specs.Names.{of_one, place_name}
 use Rattle.lucy_front.specs.Items.{path_text, IsActorName}
 use Rattle.lucy_front.specs.Ends.{end_of, AreEndsTo, AreAllEnds}
@@ -58,8 +59,8 @@ all_more nodes i rows n ends are found new = record {
   where
     each_at : (k : ℕ) (m : PlacedNode) (row : List ℕ) → slice_get nodes k ≡ Some m → slice_get (rows ++ ends ∷ []) k ≡ Some row → (k < i) ⊎ (i ≤ k) → AreEndsTo nodes m (length m.calls) row
     each_at k m row at_m at_row (inl low) =
-        let h = got rows k row (omega (arith, low, are.count)) in
-        are.each k m row at_m (h ∙ sym (get_left rows (ends ∷ []) k (get_or rows k row) h) ∙ at_row)
+        let h = slice_get-get_or rows k row (omega (arith, low, are.count)) in
+        are.each k m row at_m (h ∙ sym (still_there rows (ends ∷ []) k (get_or rows k row) h) ∙ at_row)
     each_at k m row at_m at_row (inr high) =
         let w = slice_get_within (rows ++ ends ∷ []) k row at_row in
         let k_is : i ≡ k = omega (arith, w, high, length_push rows ends, are.count) in
@@ -89,12 +90,12 @@ ends_rise nodes n ends are =
 pub ends_at : (nodes : List PlacedNode) (rows : List (List ℕ)) (upto i : ℕ) (n : PlacedNode) (row ends : List ℕ) → AreAllEnds nodes upto rows → i < upto → slice_get nodes i ≡ Some n → row ≡ get_or rows i row → ends ≡ row →
     AreEndsTo nodes n (length n.calls) ends
 ends_at nodes rows upto i n row ends are low found at is =
-    let there : slice_get rows i ≡ Some row = got rows i row (omega (arith, low, are.count)) ∙ ap (λ r. Some r) (sym at) in
+    let there : slice_get rows i ≡ Some row = slice_get-get_or rows i row (omega (arith, low, are.count)) ∙ ap (λ r. Some r) (sym at) in
     subst (AreEndsTo nodes n (length n.calls)) (sym is) (are.each i n row found there)
 
 -- a call in a loop over those of a node
 pub site_at : (sites calls : List CallSite) (j : ℕ) (s : CallSite) → sites ≡ calls → j < length sites → s ≡ get_or sites j s → slice_get calls j ≡ Some s
-site_at sites calls j s same l at = ap (λ ss. slice_get ss j) (sym same) ∙ got sites j s l ∙ ap (λ r. Some r) (sym at)
+site_at sites calls j s same l at = ap (λ ss. slice_get ss j) (sym same) ∙ slice_get-get_or sites j s l ∙ ap (λ r. Some r) (sym at)
 
 pub ends_step : (nodes : List PlacedNode) (n : PlacedNode) (i : ℕ) (site : CallSite) (ends : List ℕ) (end part next : ℕ) (new : List ℕ) → AreEndsTo nodes n i ends → end ≡ slice_index ends i → slice_get n.calls i ≡ Some site →
     part ≡ capped (size_of nodes site.node) → next ≡ capped (end + part) → new ≡ ends ++ next ∷ [] → AreEndsTo nodes n (i + 1) new × (next ≡ slice_index new (i + 1))
@@ -107,7 +108,7 @@ ends_step nodes n i site ends end part next new are last stands part_is next_is 
 module _ (nodes : List PlacedNode) (node : ℕ) (n : PlacedNode) (behind : ℕ) (ends : List ℕ) (found : slice_get nodes node ≡ Some n) (are : AreEndsTo nodes n (length n.calls) ends)
     (few : size_of nodes node < 4294967296) (below : Below node n.calls) (there : behind < size_of nodes node) where
   whole : size_of nodes node ≡ end_of nodes n (length n.calls)
-  whole = sym (ap (λ sites. length n.places + sum_by (λ (site : CallSite). size_of nodes site.node) sites) (take_whole n.calls (length n.calls) (omega arith)) ∙ sym (total_law own_places nodes node n found below))
+  whole = sym (ap (λ sites. length n.places + sum_by (λ (site : CallSite). size_of nodes site.node) sites) (take_all (length n.calls) n.calls (omega arith)) ∙ sym (total_law own_places nodes node n found below))
 
   -- what is no more than the whole is exact
   exact : (j : ℕ) → j ≤ length n.calls → slice_index ends j ≡ end_of nodes n j

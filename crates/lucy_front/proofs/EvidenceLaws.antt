@@ -5,7 +5,7 @@ use Rattle.std.specs.Prelude.{Vec}
 use Rattle.std.specs.Global.{Global}
 use Rattle.lucy_need.specs.declared.need.Need.{Need}
 use Rattle.lucy_need.specs.declared.need.Needs.{Needs}
-use Rattle.lucy_solve.specs.System.{System}
+use Rattle.lucy_solve.specs.System.{DifferenceSystem}
 use Rattle.lucy_shape.specs.declared.shape.Shape.{Shape}
 use Rattle.lucy_shape.specs.Fitting.{variable_count}
 use Rattle.lucy_shape.specs.Inequalities.{system_of}
@@ -30,7 +30,7 @@ pub all_below : (count : ℕ) (numbers : List ℕ) → ((k : ℕ) → k < length
 all_below count [] each = tt
 all_below count (k ∷ numbers) each = (each 0 (omega arith), all_below count numbers (λ i l. each (suc i) (omega (arith, l))))
 
-pub cycle_there : (needs : Needs) (scale lead : ℕ) (shape : Shape) (diffs : System) (cycle : Vec ℕ Global) → RefusesInference needs scale lead (uninferred.Clocks shape diffs cycle) →
+pub cycle_there : (needs : Needs) (scale lead : ℕ) (shape : Shape) (diffs : DifferenceSystem) (cycle : Vec ℕ Global) → RefusesInference needs scale lead (uninferred.Clocks shape diffs cycle) →
     (length shape.clocks ≡ needs.clocks) × (diffs.count ≡ variable_count shape.clocks) × AreBelow (length diffs.list) cycle.items
 cycle_there needs scale lead shape diffs cycle (inl h) = absurd h
 cycle_there needs scale lead shape diffs cycle (inr h) =
@@ -38,6 +38,6 @@ cycle_there needs scale lead shape diffs cycle (inr h) =
     let told : shape ≡ h.0 = refused.0 in
     let is : diffs ≡ system_of needs h.0 = refused.1 in (
       ap (λ (s : Shape). length s.clocks) told ∙ h.1.wide.clocks,
-      ap (λ (s : System). s.count) is ∙ ap (λ (s : Shape). variable_count s.clocks) (sym told),
-      subst (λ (s : System). AreBelow (length s.list) cycle.items) (sym is) (all_below _ cycle.items refused.2.shown.within),
+      ap (λ (s : DifferenceSystem). s.count) is ∙ ap (λ (s : Shape). variable_count s.clocks) (sym told),
+      subst (λ (s : DifferenceSystem). AreBelow (length s.list) cycle.items) (sym is) (all_below _ cycle.items refused.2.shown.within),
     )

@@ -1,10 +1,8 @@
 -- What inference gives is clocks of a node that isn't written, and its refusals are refusals of the node.
-use Rattle.std.proofs.Common.{ℕ, ◌<◌, ◌≡◌, List, [], ◌∷◌, length, sym, subst, inl, inr}
+use Rattle.std.proofs.Common.{ℕ, ◌<◌, ◌≡◌, List, [], length, sym, subst, inl, inr}
 use Rattle.lucy_place.specs.declared.placed.PlacedNode.{PlacedNode}
 use Rattle.lucy_place.specs.PlacedProgram.{PlacedProgram}
 use Rattle.lucy_place.specs.Proper.{IsProperNode}
-use Rattle.lucy_need.specs.declared.need.Need.{Need}
-use Rattle.lucy_need.specs.declared.need.Need.TheVariants.{Equal, Adapt}
 use Rattle.lucy_need.specs.declared.need.Needs.{Needs}
 use Rattle.lucy_need.specs.Meeting.{Assignment, assigned}
 use Rattle.lucy_clock.specs.declared.signature.Signature.{Signature}
@@ -12,7 +10,7 @@ use Rattle.lucy_clock.specs.declared.node_clock.NodeClock.{NodeClock}
 use Rattle.lucy_clock.specs.Clocks.{AreSignatures, clocks_of}
 use Rattle.lucy_clock.specs.WellClocked.{IsWellClocked}
 use Rattle.lucy_clock.proofs.NeedLaws.{rules_law}
-use Rattle.lucy_check.specs.Passing.{PassesAll, AllWithinLimits}
+use Rattle.lucy_check.proofs.CheckLaws.{all_within}
 use Rattle.lucy_shape.specs.declared.shape.Shape.{Shape}
 use Rattle.lucy_shape.specs.Fitting.{FitsShape}
 use Rattle.lucy_inference.specs.declared.refusal.Uninferred.{Uninferred}
@@ -27,12 +25,6 @@ use Rattle.lucy_program.specs.Clocked.{AreFewNeeds, IsClocked}
 use Rattle.lucy_front.specs.Clocking.{inference_fault, HasNoClocks}
 use Rattle.lucy_front.specs.Sizes.{buffer_sizes}
 use Rattle.lucy_front.proofs.ClockedLaws.{clocked_by}
-
--- needs that words pass are within the limits
-within_limits : (w : Assignment) (needs : List Need) (sizes : List ℕ) → PassesAll w needs sizes → AllWithinLimits w needs
-within_limits w [] sizes p = tt
-within_limits w (Equal s t ∷ needs) sizes p = ((p.2.0, p.2.1, p.2.2), within_limits w needs p.1 p.3)
-within_limits w (Adapt s t ∷ needs) sizes p = ((p.2.0, p.2.1, p.2.2), within_limits w needs p.1 p.3)
 
 module _ (o : Options) (nodes : List PlacedNode) (above : List Signature) (n : PlacedNode) (proper : IsProperNode nodes n) (ports : AreSignatures nodes above) where
   -- an assignment by which the node is well clocked, and which fits a shape of its clocks, fits and meets
@@ -56,7 +48,7 @@ module _ (o : Options) (nodes : List PlacedNode) (above : List Signature) (n : P
         earliest = λ other well fits clock number l. earliest.earliest other (fits_meets is.shape other count well fits) clock number l;
       } in
       clocked_by o nodes above n proper ports c sizes own few (inr its) words.earliest.count (λ i l. earliest.is.fits.words i (subst (λ k. i < k) (sym count) l)) earliest.is.fits.base earliest.is.meets
-      (within_limits (assigned c.words) _ sizes is.passes) is.passes
+      (all_within (assigned c.words) _ sizes is.passes) is.passes
 
 -- a node that may be inferred needn't be written
 pub open_unshut : (o : Options) (n : PlacedNode) → IsOpen o n → IsShut o n → ⊥

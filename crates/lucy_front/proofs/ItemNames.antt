@@ -3,16 +3,16 @@ use Rattle.std.proofs.Common.{ℕ, ◌+◌, ◌≡◌, List, [], ◌∷◌, ◌+
 use Rattle.std.specs.Prelude.{◌⊎◌, slice_get}
 use Rattle.std.proofs.lemmas.List.{take_more, length_push}
 use Rattle.std.proofs.lemmas.Option.{slice_get_within, get_or_from_slice_get}
+use Rattle.lucy_word.proofs.Lists.{get_push}
 use Rattle.lucy_place.specs.declared.placed.PlacedNode.{PlacedNode}
 use Rattle.lucy_net.specs.declared.error.Item.{Item}
 use Rattle.lucy_front.specs.Items.{IsActorName, AreNamesOf}
-use Rattle.lucy_front.proofs.MoreClocks.{get_back}
 
 pub names_more : (nodes : List PlacedNode) (items : List Item) (i : ℕ) (item : Item) (names : List (List ℕ)) (name : List ℕ) (new : List (List ℕ)) → AreNamesOf nodes (take i items) names → slice_get items i ≡ Some item →
     IsActorName nodes item.actor name → new ≡ names ++ name ∷ [] → AreNamesOf nodes (take (i + 1) items) new
 names_more nodes items i item names name new are at is put = record {
   count = (let a = ap length put in let b = length_push names name in let e = ap length next in let d = length_push (take i items) item in omega (arith, are.count));
-  each = λ k x text at_x at_text. pick k x text (get_back (take i items) item k x (sym (ap (λ l. slice_get l k) next) ∙ at_x)) (get_back names name k text (sym (ap (λ l. slice_get l k) put) ∙ at_text));
+  each = λ k x text at_x at_text. pick k x text (get_push (take i items) item k x (sym (ap (λ l. slice_get l k) next) ∙ at_x)) (get_push names name k text (sym (ap (λ l. slice_get l k) put) ∙ at_text));
 }
   where
     next : take (i + 1) items ≡ take i items ++ item ∷ []

@@ -7,6 +7,7 @@ use Rattle.std.specs.Fmt.{decimal}
 use Rattle.std.proofs.lemmas.List.{drop_more, length-append}
 use Rattle.std.proofs.lemmas.List.FromFn.{length-map-range_with_len}
 use Rattle.std.proofs.lemmas.List.Sums.{sum_by-cons}
+use Rattle.lucy_word.proofs.Lists.{six}
 use Rattle.lucy_place.specs.declared.placed.PlacedNode.{PlacedNode}
 use Rattle.lucy_need.specs.declared.need.Need.{Need}
 use Rattle.lucy_solve.specs.declared.diffs.Diff.{Diff}
@@ -26,19 +27,9 @@ place_lines names = flat_map (λ name. codes "  " ++ (name ++ codes "\n")) names
 abbrev pub position_name : List ℕ → ℕ → List ℕ
 position_name clock m = clock ++ (codes "[" ++ (decimal m ++ codes "]"))
 
--- three parts, and six, one put behind the other
-pub three : (s t u a b c d : List ℕ) → b ≡ a ++ s → c ≡ b ++ t → d ≡ c ++ u → d ≡ a ++ (s ++ (t ++ u))
-three s t u a b c d f g h = h ∙ ap (λ x. x ++ u) (g ∙ ap (λ x. x ++ t) f) ∙ append_assoc (a ++ s) t u ∙ append_assoc a s (t ++ u)
-
-pub six : (s t u v w x a b c d e f g : List ℕ) → b ≡ a ++ s → c ≡ b ++ t → d ≡ c ++ u → e ≡ d ++ v → f ≡ e ++ w → g ≡ f ++ x → g ≡ a ++ (s ++ (t ++ (u ++ (v ++ (w ++ x)))))
-six s t u v w x a b c d e f g h i j k l m =
-    let front : d ≡ a ++ (s ++ (t ++ u)) = three s t u a b c d h i j in
-    let back : g ≡ d ++ (v ++ (w ++ x)) = three v w x d e f g k l m in
-    back ∙ ap (λ y. y ++ (v ++ (w ++ x))) front ∙ append_assoc a (s ++ (t ++ u)) (v ++ (w ++ x))
-    ∙ ap (λ y. a ++ y) (append_assoc s (t ++ u) (v ++ (w ++ x)) ∙ ap (λ y. s ++ y) (append_assoc t u (v ++ (w ++ x))))
-
+-- six parts, one put behind the other
 pub six_new : (s t u v w x a b c d e f g : List ℕ) → a ≡ [] → b ≡ a ++ s → c ≡ b ++ t → d ≡ c ++ u → e ≡ d ++ v → f ≡ e ++ w → g ≡ f ++ x → g ≡ s ++ (t ++ (u ++ (v ++ (w ++ x))))
-six_new s t u v w x a b c d e f g none h i j k l m = six s t u v w x a b c d e f g h i j k l m ∙ ap (λ y. y ++ (s ++ (t ++ (u ++ (v ++ (w ++ x)))))) none
+six_new s t u v w x a b c d e f g none h i j k l m = six a b c d e f g s t u v w x h i j k l m ∙ ap (λ y. y ++ (s ++ (t ++ (u ++ (v ++ (w ++ x)))))) none
 
 -- a number of a list
 pub below_at : (count : ℕ) (xs : List ℕ) (i : ℕ) → AreBelow count xs → i < length xs → get_or xs i 0 < count

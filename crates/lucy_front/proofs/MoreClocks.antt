@@ -1,10 +1,11 @@
 -- The clocks of one node more.
-use Rattle.std.proofs.Common.{ℕ, zero, suc, ◌+◌, ◌<◌, ◌≤◌, ◌≡◌, List, [], ◌∷◌, ◌++◌, length, take, Some, ap, sym, refl, ◌∙◌, subst, inl, inr, arith}
-use Rattle.std.specs.Prelude.{slice_get, ◌⊎◌}
+use Rattle.std.proofs.Common.{ℕ, ◌+◌, ◌<◌, ◌≤◌, ◌≡◌, List, [], ◌∷◌, ◌++◌, length, take, Some, ap, sym, ◌∙◌, subst, inl, inr, arith}
+use Rattle.std.specs.Prelude.{slice_get}
 use Rattle.std.proofs.Math.Nat.{min-le_left}
 use Rattle.std.proofs.lemmas.List.{take-take, take-append-le, take_more, length-take-le, length_push, take_all, length-take}
 use Rattle.std.proofs.lemmas.Option.{same_Some, slice_get_within, get_or_from_slice_get}
-use Rattle.lucy_types.proofs.ListLaws.{get_take}
+use Rattle.lucy_word.proofs.Lists.{get_push}
+use Rattle.lucy_host.proofs.Elements.{get_take}
 use Rattle.lucy_place.specs.declared.placed.PlacedNode.{PlacedNode}
 use Rattle.lucy_place.specs.Proper.{IsProperNode, AreProper}
 use Rattle.lucy_clock.specs.declared.node_clock.NodeClock.{NodeClock}
@@ -17,12 +18,6 @@ use Rattle.lucy_program.specs.Clocked.{IsClocked, AreClocksOf}
 -- the signatures are those of the nodes
 pub signatures_are : {o : Options} (nodes : List PlacedNode) (clocks : List NodeClock) → AreProper nodes → AreClocksOf o nodes clocks → AreSignatures nodes (signatures nodes clocks)
 signatures_are nodes clocks proper are = signatures_fit nodes clocks proper are.all (λ i n c at of. (are.each i n c at of).count)
-
-pub get_back : {A : Type 0} (xs : List A) (x : A) (i : ℕ) (y : A) → slice_get (xs ++ x ∷ []) i ≡ Some y → (slice_get xs i ≡ Some y) ⊎ ((i ≡ length xs) × (x ≡ y))
-get_back [] x zero y e = inr (refl, same_Some x y e)
-get_back [] x (suc i) y e = absurd (cc e)
-get_back (z ∷ xs) x zero y e = inl e
-get_back (z ∷ xs) x (suc i) y e = elim (get_back xs x i y e) [ inl f ↦ inl f | inr f ↦ inr (ap suc f.0, f.1) ]
 
 -- all before the next one
 module _ {o : Options} (nodes : List PlacedNode) (node : ℕ) (clocks more : List NodeClock) (n : PlacedNode) (c : NodeClock) (at : slice_get nodes node ≡ Some n) (are : AreClocksOf o (take node nodes) clocks) (e : more ≡ clocks ++ c ∷ []) where
@@ -56,7 +51,7 @@ module _ {o : Options} (nodes : List PlacedNode) (node : ℕ) (clocks more : Lis
       let within = slice_get_within (take (node + 1) nodes) i m here in
       let long = length-take-le (node + 1) nodes (omega (arith, below)) in
       let at_m : slice_get nodes i ≡ Some m = sym (get_take (node + 1) nodes i (omega arith)) ∙ here in
-      elim (get_back clocks c i d (sym (ap (λ l. slice_get l i) e) ∙ of)) [
+      elim (get_push clocks c i d (sym (ap (λ l. slice_get l i) e) ∙ of)) [
         | inl f ↦
             let l : i < node = omega (arith, slice_get_within clocks i d f, count) in
             subst (λ s. IsClocked o s m d) (front_same i (omega arith)) (are.each i m d (get_take node nodes i l ∙ at_m) f)

@@ -1,6 +1,5 @@
 -- A node has one choice of clocks: words in shortest form, and the sizes of its buffers.
-use Rattle.std.proofs.Common.{ℕ, suc, ◌<◌, ◌≡◌, List, [], ◌∷◌, length, Some, refl, ap, sym, ◌∙◌, subst, inl, inr, arith}
-use Rattle.std.specs.Prelude.{slice_get}
+use Rattle.std.proofs.Common.{ℕ, suc, ◌<◌, ◌≡◌, List, [], ◌∷◌, length, refl, ap, sym, ◌∙◌, subst, inl, inr, arith}
 use Rattle.std.specs.List.{AllByRecursion}
 use Rattle.std.proofs.lemmas.Option.{slice_get_within}
 use Rattle.lucy_word.specs.Bits.{Bits}
@@ -8,11 +7,12 @@ use Rattle.lucy_word.specs.Stored.{IsStored}
 use Rattle.lucy_word.specs.Shortest.{Same}
 use Rattle.lucy_word.specs.Adaptable.{IsSize}
 use Rattle.lucy_word.proofs.ShortLaws.{shortest_one}
+use Rattle.lucy_word.proofs.Lists.{same_entries}
+use Rattle.lucy_host.proofs.Elements.{get_there}
 use Rattle.lucy_check.proofs.OneVerdict.{one_size}
 use Rattle.lucy_place.specs.declared.placed.PlacedNode.{PlacedNode}
 use Rattle.lucy_place.specs.Proper.{IsProperNode}
 use Rattle.lucy_place.specs.WrittenNodes.{IsWritten}
-use Rattle.lucy_types.proofs.ListLaws.{get_there}
 use Rattle.lucy_need.specs.Meeting.{assigned}
 use Rattle.lucy_clock.specs.declared.signature.Signature.{Signature}
 use Rattle.lucy_clock.specs.declared.node_clock.NodeClock.{NodeClock}
@@ -36,16 +36,6 @@ words_same (u ∷ xs) (v ∷ ys) count x y same =
     let rest : xs ≡ ys = words_same xs ys (omega (arith, count)) x.1 y.1 (λ c l. same (suc c) (omega (arith, l))) in
     ap (λ w. w ∷ xs) first ∙ ap (λ ws. v ∷ ws) rest
 
--- and so are numbers that are equal at each place
-numbers_same : (xs ys : List ℕ) → length xs ≡ length ys → ((i x y : ℕ) → slice_get xs i ≡ Some x → slice_get ys i ≡ Some y → x ≡ y) → xs ≡ ys
-numbers_same [] [] count same = refl
-numbers_same [] (y ∷ ys) count same = absurd (omega (arith, count))
-numbers_same (x ∷ xs) [] count same = absurd (omega (arith, count))
-numbers_same (x ∷ xs) (y ∷ ys) count same =
-    let first : x ≡ y = same 0 x y refl refl in
-    let rest : xs ≡ ys = numbers_same xs ys (omega (arith, count)) (λ i a b e f. same (suc i) a b e f) in
-    ap (λ a. a ∷ xs) first ∙ ap (λ ns. y ∷ ns) rest
-
 module _ (nodes : List PlacedNode) (n : PlacedNode) (proper : IsProperNode nodes n) where
   -- the words that are handed down are one list
   pub words_one : IsWritten n → (xs ys : List Bits) → AreWordsOf n xs → AreWordsOf n ys → xs ≡ ys
@@ -55,7 +45,7 @@ module _ (nodes : List PlacedNode) (n : PlacedNode) (proper : IsProperNode nodes
 
   sizes_one : (c d : NodeClock) → c.words ≡ d.words → AreSizes n c → AreSizes n d → c.sizes ≡ d.sizes
   sizes_one c d words x y =
-      numbers_same c.sizes d.sizes (x.count ∙ sym y.count) (λ i a b at of.
+      same_entries c.sizes d.sizes (x.count ∙ sym y.count) (λ i a b at of.
       let l = slice_get_within c.sizes i a at in
       let place = get_there n.buffers i (subst (λ k. i < k) x.count l) in
       let buffer = proper.buffers (suc i) place.0 place.1 in

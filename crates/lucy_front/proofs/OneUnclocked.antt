@@ -3,10 +3,11 @@ use Rattle.std.proofs.Common.{ℕ, zero, suc, ◌<◌, ◌≤◌, ◌≡◌, Lis
 use Rattle.std.proofs.lemmas.Bool.{cases_lt}
 use Rattle.std.proofs.lemmas.List.{take_all, take-take, take_more_same, length-take-le}
 use Rattle.std.proofs.lemmas.Option.{same_Some, slice_get_within, get_or_from_slice_get}
+use Rattle.lucy_host.proofs.Elements.{get_there, get_take}
 use Rattle.lucy_place.specs.declared.placed.PlacedNode.{PlacedNode}
 use Rattle.lucy_place.specs.PlacedProgram.{PlacedProgram}
 use Rattle.lucy_place.specs.Proper.{AreProper}
-use Rattle.lucy_types.proofs.ListLaws.{get_there, get_take, taken}
+use Rattle.lucy_types.proofs.ListLaws.{taken}
 use Rattle.lucy_clock.specs.declared.signature.Signature.{Signature}
 use Rattle.lucy_clock.specs.declared.node_clock.NodeClock.{NodeClock}
 use Rattle.lucy_front.specs.declared.fault.NoClocks.{NoClocks}

@@ -24,8 +24,9 @@ use Rattle.lucy_clock.specs.Listing.{word_needs, argument_needs, result_needs, o
 use Rattle.lucy_clock.specs.Clocks.{call_clock}
 use Rattle.lucy_check.specs.Passing.{PassesAll}
 use Rattle.lucy_front.specs.Sizes.{need_count, buffer_sizes}
-use Rattle.lucy_need.proofs.AllLaws.{all_join}
 use Rattle.std.specs.Prelude.{slice_index_or}
+use Rattle.lucy_word.proofs.Lists.{all_join}
+use Rattle.lucy_place.proofs.NodeLaws.{stands_one}
 
 -- the sizes of needs, one list behind the other
 pub split : (w : Assignment) (xs ys : List Need) (sizes : List ℕ) → PassesAll w (xs ++ ys) sizes →
@@ -106,10 +107,6 @@ listed_join w n k (p ∷ ps) qs front back h b =
       listed_join w n (suc k) ps qs h.2 back h.5 (subst (λ m. Listed w n m qs back) z b),
       ap (λ l. l ++ back) h.6 ∙ ap (λ l. h.0 ∷ l) (append_assoc h.1 h.2 back),
     )
-
--- what stands at a place is one thing
-stands_one : (n : PlacedNode) (p : ℕ) (kind other : PlaceKind) → Stands n p kind → Stands n p other → kind ≡ other
-stands_one n p kind other s t = sym s.2 ∙ ap (λ (e : PlaceEntry). e.kind) (same_Some s.0 t.0 (sym s.1 ∙ t.1)) ∙ t.2
 
 number_one : (k e j f : ℕ) → Buffer k e ≡ Buffer j f → k ≡ j
 number_one k e j f h = cc h

@@ -18,7 +18,7 @@ use lucy_clock::{NodeClock, Numbers64, Signature, Words, needs, ports, written};
 use lucy_inference::infer;
 use lucy_place::{Placed, PlacedNode};
 use lucy_program::Options;
-use lucy_word::{OutOfMemory, Word};
+use lucy_word::Word;
 use std::alloc::{AllocError, Global};
 
 /// One more entry of a list.
@@ -67,7 +67,7 @@ fn clock_of(
     node: &PlacedNode,
     words: Vec<Word>,
     sizes: &[u64],
-) -> Result<NodeClock, OutOfMemory>
+) -> Result<NodeClock, AllocError>
     ensures words { IfOk result (λ c. c.words ≡ words.items) }
     ensures sizes { IfOk result (λ c. c.sizes ≡ buffer_sizes node.now.bounds sizes.now) }
 {

@@ -17,8 +17,7 @@ use lucy_program::{Accepted, bytes, number};
 use lucy_shape::{ClockShape, Shape};
 use lucy_solve::{Diff, Diffs};
 use lucy_text::Text;
-use lucy_word::OutOfMemory;
-use std::alloc::Global;
+use std::alloc::{AllocError, Global};
 
 // Puts the needs of these numbers last, each on a line of its own.
 fn walk_lines(
@@ -27,7 +26,7 @@ fn walk_lines(
     needs: &[Need],
     walk: &[u32],
     lines: &mut Vec<u8>,
-) -> Result<(), OutOfMemory>
+) -> Result<(), AllocError>
     requires { AreBelow (length needs.now) walk.now }
     ensures { OnOk result (lines.new.items ≡ lines.old.items ++ spec.walk_lines node.now needs.now walk.now) }
 {
@@ -45,7 +44,7 @@ pub(crate) fn unequal_lines(
     node: &PlacedNode,
     needs: &[Need],
     walk: &[u32],
-) -> Result<Vec<u8>, OutOfMemory>
+) -> Result<Vec<u8>, AllocError>
     requires { AreBelow (length needs.now) walk.now }
     ensures { IfOk result (λ v. v.items ≡ codes "lucy: rates: node "
         ++ (node.now.name.text ++ (codes "\n" ++ spec.walk_lines node.now needs.now walk.now))) }
@@ -59,7 +58,7 @@ pub(crate) fn unequal_lines(
 }
 
 // A position of a clock.
-fn position_name(alloc: Global, clock: &[u8], position: u64) -> Result<Text, OutOfMemory>
+fn position_name(alloc: Global, clock: &[u8], position: u64) -> Result<Text, AllocError>
     ensures { IfOk result (λ text. text ≡ clock.now ++ (codes "[" ++ (decimal position ++ codes "]"))) }
 {
     let mut name = Vec::new(alloc);
@@ -76,7 +75,7 @@ fn put_positions(
     clock: &[u8],
     count: u64,
     names: &mut Vec<Text>,
-) -> Result<(), OutOfMemory>
+) -> Result<(), AllocError>
     requires { count + 1 < 2 ^ 64 }
     ensures { OnOk result (names.new.items ≡ names.old.items ++ map (λ m. clock.now ++ (codes "[" ++ (decimal m ++ codes "]"))) (range_with_len 1 count)) }
 {
@@ -93,7 +92,7 @@ fn put_clock(
     clock: u32,
     shape: &ClockShape,
     names: &mut Vec<Text>,
-) -> Result<(), OutOfMemory>
+) -> Result<(), AllocError>
     requires { position_count shape.now + 1 < 2 ^ 64 }
     ensures { OnOk result (names.new.items ≡ names.old.items
         ++ map (λ m. clock_name node.now clock ++ (codes "[" ++ (decimal m ++ codes "]"))) (range_with_len 1 (position_count shape.now))) }
@@ -112,7 +111,7 @@ fn variable_names(
     clocks: u32,
     shapes: &[ClockShape],
     count: u32,
-) -> Result<Vec<Text>, OutOfMemory>
+) -> Result<Vec<Text>, AllocError>
     requires clocks { length shapes.now ≡ clocks }
     requires count { count ≡ variable_count shapes.now }
     ensures { IfOk result (λ v. v.items ≡ spec.variable_names node.now shapes.now) }
@@ -126,7 +125,7 @@ fn variable_names(
 }
 
 // Puts a constant last, behind a variable.
-fn put_most(alloc: Global, most: i64, line: &mut Vec<u8>) -> Result<(), OutOfMemory>
+fn put_most(alloc: Global, most: i64, line: &mut Vec<u8>) -> Result<(), AllocError>
     ensures { OnOk result (line.new.items ≡ line.old.items ++ spec.most_text most) }
 {
     bytes(if most < 0 { b" - " } else { b" + " }, line)?;
@@ -139,7 +138,7 @@ fn diff_line(
     names: &[Text],
     diff: &Diff,
     lines: &mut Vec<u8>,
-) -> Result<(), OutOfMemory>
+) -> Result<(), AllocError>
     requires left { diff.now.left < length names.now }
     requires right { diff.now.right < length names.now }
     ensures { OnOk result (lines.new.items ≡ lines.old.items ++ spec.diff_line names.now diff.now) }
@@ -159,7 +158,7 @@ fn cycle_lines(
     diffs: &Diffs,
     cycle: &[u32],
     lines: &mut Vec<u8>,
-) -> Result<(), OutOfMemory>
+) -> Result<(), AllocError>
     requires names { length names.now ≡ diffs.now.count }
     requires there { AreBelow (length diffs.now.list) cycle.now }
     ensures { OnOk result (lines.new.items ≡ lines.old.items ++ spec.cycle_lines names.now diffs.now.list cycle.now) }
@@ -180,7 +179,7 @@ fn put_cycle(
     diffs: &Diffs,
     cycle: &[u32],
     lines: &mut Vec<u8>,
-) -> Result<(), OutOfMemory>
+) -> Result<(), AllocError>
     requires clocks { length shape.now.clocks ≡ clocks }
     requires variables { diffs.now.count ≡ variable_count shape.now.clocks }
     requires there { AreBelow (length diffs.now.list) cycle.now }
@@ -198,7 +197,7 @@ pub(crate) fn unclocked_lines(
     shape: &Shape,
     diffs: &Diffs,
     cycle: &[u32],
-) -> Result<Vec<u8>, OutOfMemory>
+) -> Result<Vec<u8>, AllocError>
     requires clocks { length shape.now.clocks ≡ clocks }
     requires variables { diffs.now.count ≡ variable_count shape.now.clocks }
     requires there { AreBelow (length diffs.now.list) cycle.now }
@@ -225,7 +224,7 @@ pub fn cycle_text(
     shape: &Shape,
     diffs: &Diffs,
     cycle: &[u32],
-) -> Result<Vec<u8>, OutOfMemory>
+) -> Result<Vec<u8>, AllocError>
     requires node { node < length accepted.now.placed.nodes }
     requires clocks { (n : Node) → slice_get accepted.now.placed.nodes node ≡ Some n → length shape.now.clocks ≡ clocks_of n }
     requires variables { diffs.now.count ≡ variable_count shape.now.clocks }

@@ -11,7 +11,7 @@ use lucy_need::Needs;
 use lucy_shape::Shape;
 use lucy_solve::Diffs;
 use lucy_tree::Span;
-use lucy_word::{Limit, OutOfMemory};
+use lucy_word::Limit;
 use std::alloc::AllocError;
 
 /// Why a node is refused. Its needs, and inequalities, count from 0.
@@ -73,14 +73,6 @@ impl From<AllocError> for NoClocks {
     ghost from_gives = { λ _ e. e ≡ NoMemory };
 
     fn from(_: AllocError) -> Self {
-        NoClocks::OutOfMemory
-    }
-}
-
-impl From<OutOfMemory> for NoClocks {
-    ghost from_gives = { λ _ e. e ≡ NoMemory };
-
-    fn from(_: OutOfMemory) -> Self {
         NoClocks::OutOfMemory
     }
 }

@@ -16,17 +16,11 @@ use lucy_net::Item;
 use lucy_place::Placed;
 use lucy_program::{bytes, place_name};
 use lucy_text::Text;
-use lucy_word::OutOfMemory;
-use std::alloc::Global;
+use std::alloc::{AllocError, Global};
 
 // How far behind its begin each part of an instance of the node ends: its own places, and then the instance of each of its
 // calls.
-fn ends_of(
-    alloc: Global,
-    placed: &Placed,
-    sizes: &[u64],
-    node: u32,
-) -> Result<Vec<u64>, OutOfMemory>
+fn ends_of(alloc: Global, placed: &Placed, sizes: &[u64], node: u32) -> Result<Vec<u64>, AllocError>
     requires room { length placed.now.nodes ≤ length sizes.now }
     requires sizes { AreCapped (size_of placed.now.nodes) (length placed.now.nodes) sizes.now }
     requires node { node < length placed.now.nodes }
@@ -45,7 +39,7 @@ fn ends_of(
 }
 
 // Those of all nodes.
-fn all_ends(alloc: Global, placed: &Placed) -> Result<Vec<Numbers64>, OutOfMemory>
+fn all_ends(alloc: Global, placed: &Placed) -> Result<Vec<Numbers64>, AllocError>
     ensures { IfOk result (λ v. AreAllEnds placed.now.nodes (length placed.now.nodes) v.items) }
 {
     let sizes = sizes(placed);
@@ -76,7 +70,7 @@ fn put_name(
     node: u32,
     behind: u64,
     name: &mut Vec<u8>,
-) -> Result<(), OutOfMemory>
+) -> Result<(), AllocError>
     requires ends { AreAllEnds placed.now.nodes (length placed.now.nodes) ends.now }
     requires node { node < length placed.now.nodes }
     requires there { behind < size_of placed.now.nodes node }
@@ -109,7 +103,7 @@ pub(crate) fn item_names(
     placed: &Placed,
     main: u32,
     items: &[Item],
-) -> Result<Vec<Text>, OutOfMemory>
+) -> Result<Vec<Text>, AllocError>
     requires main { main + 1 ≡ length placed.now.nodes }
     requires few { all_places placed.now.nodes < 2 ^ 32 }
     requires there { AllByRecursion (λ item. item.actor < all_places placed.now.nodes) items.now }

@@ -11,7 +11,8 @@ use lucy_net::{Item, Net};
 use lucy_place::Placed;
 use lucy_syntax::SyntaxError;
 use lucy_text::Text;
-use lucy_word::{Limit, OutOfMemory};
+use lucy_word::Limit;
+use std::alloc::AllocError;
 
 /// Why a program text is refused. Nodes count from 0.
 #[derive(Drop)]
@@ -88,10 +89,10 @@ impl From<FlatError> for Refusal {
     }
 }
 
-impl From<OutOfMemory> for Refusal {
+impl From<AllocError> for Refusal {
     ghost from_gives = { λ _ e. e ≡ NoMemory };
 
-    fn from(_: OutOfMemory) -> Self {
+    fn from(_: AllocError) -> Self {
         Refusal::OutOfMemory
     }
 }

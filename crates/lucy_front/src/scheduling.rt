@@ -16,8 +16,7 @@ use lucy_flat::flatten;
 use lucy_net::{CauseFault, Net, schedule_of};
 use lucy_place::Placed;
 use lucy_program::Accepted;
-use lucy_word::OutOfMemory;
-use std::alloc::Global;
+use std::alloc::{AllocError, Global};
 
 // The refusal of a program whose net has no schedule.
 fn refusal(alloc: Global, placed: &Placed, net: Net, fault: CauseFault) -> Refusal
@@ -37,7 +36,7 @@ fn refusal(alloc: Global, placed: &Placed, net: Net, fault: CauseFault) -> Refus
                     instant,
                     items,
                 },
-                Err(OutOfMemory) => Refusal::OutOfMemory,
+                Err(AllocError) => Refusal::OutOfMemory,
             }
         }
     }

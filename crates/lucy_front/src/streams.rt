@@ -14,8 +14,8 @@ use lucy_lines::{InputSpec, OutputSpec};
 use lucy_place::{Placed, PlacedNode};
 use lucy_program::{param_places, place_name};
 use lucy_types::Typed;
-use lucy_word::{OutOfMemory, Word};
-use std::alloc::Global;
+use lucy_word::Word;
+use std::alloc::{AllocError, Global};
 
 // The input that a place of main is.
 fn input_at(
@@ -23,7 +23,7 @@ fn input_at(
     main: &PlacedNode,
     typed: &Typed,
     place: u32,
-) -> Result<InputSpec, OutOfMemory>
+) -> Result<InputSpec, AllocError>
     requires main { 0 < length typed.now }
     requires first { 1 ≤ place }
     requires last { place ≤ length (table_at typed.now (length typed.now - 1)) }
@@ -42,7 +42,7 @@ fn output_at(
     typed: &Typed,
     words: &[Word],
     place: u32,
-) -> Result<OutputSpec, OutOfMemory>
+) -> Result<OutputSpec, AllocError>
     requires main { 0 < length typed.now }
     requires first { 1 ≤ place }
     requires last { place ≤ length (table_at typed.now (length typed.now - 1)) }
@@ -62,7 +62,7 @@ fn inputs_at(
     main: &PlacedNode,
     typed: &Typed,
     places: &[u32],
-) -> Result<Vec<InputSpec>, OutOfMemory>
+) -> Result<Vec<InputSpec>, AllocError>
     requires main { 0 < length typed.now }
     requires all { length (table_at typed.now (length typed.now - 1)) ≡ length main.now.places }
     requires there { ArePlaces main.now places.now }
@@ -82,7 +82,7 @@ fn outputs_at(
     typed: &Typed,
     words: &[Word],
     places: &[u32],
-) -> Result<Vec<OutputSpec>, OutOfMemory>
+) -> Result<Vec<OutputSpec>, AllocError>
     requires main { 0 < length typed.now }
     requires all { length (table_at typed.now (length typed.now - 1)) ≡ length main.now.places }
     requires words { length main.now.places < length words.now }
@@ -101,7 +101,7 @@ pub(crate) fn inputs(
     alloc: Global,
     placed: &Placed,
     typed: &Typed,
-) -> Result<Vec<InputSpec>, OutOfMemory>
+) -> Result<Vec<InputSpec>, AllocError>
     requires { IsTyped placed.now.nodes typed.now }
     ensures { IfOk result (λ v. v.items ≡ spec.main_inputs placed.now.nodes typed.now) }
 {
@@ -116,7 +116,7 @@ pub(crate) fn outputs(
     placed: &Placed,
     typed: &Typed,
     clocks: &[NodeClock],
-) -> Result<Vec<OutputSpec>, OutOfMemory>
+) -> Result<Vec<OutputSpec>, AllocError>
     requires typed { IsTyped placed.now.nodes typed.now }
     requires clocks { (o : Choices) × AreClocksOf o placed.now.nodes clocks.now }
     ensures { IfOk result (λ v. v.items ≡ spec.main_outputs placed.now.nodes typed.now clocks.now) }

@@ -7,11 +7,11 @@ use lucy_need::{Need, Term};
 use lucy_place::PlacedNode;
 use lucy_program::{bytes, place_name};
 use lucy_text::Text;
-use lucy_word::{OutOfMemory, Word};
-use std::alloc::Global;
+use lucy_word::Word;
+use std::alloc::{AllocError, Global};
 
 /// A clock of a node: its base, a place, or the base of a call.
-pub(crate) fn clock_name(alloc: Global, node: &PlacedNode, clock: u32) -> Result<Text, OutOfMemory>
+pub(crate) fn clock_name(alloc: Global, node: &PlacedNode, clock: u32) -> Result<Text, AllocError>
     ensures { IfOk result (λ text. text ≡ spec.clock_name node.now clock) }
 {
     let places = node.places.list().len();
@@ -26,7 +26,7 @@ pub(crate) fn clock_name(alloc: Global, node: &PlacedNode, clock: u32) -> Result
 }
 
 // The text of a word.
-fn word_text(alloc: Global, word: &Word) -> Result<Vec<u8>, OutOfMemory>
+fn word_text(alloc: Global, word: &Word) -> Result<Vec<u8>, AllocError>
     ensures { IfOk result (λ v. v.items ≡ text_of word.now) }
 {
     let mut text = Vec::new(alloc);
@@ -40,7 +40,7 @@ fn term_text(
     node: &PlacedNode,
     term: &Term,
     out: &mut Vec<u8>,
-) -> Result<(), OutOfMemory>
+) -> Result<(), AllocError>
     ensures { OnOk result (out.new.items ≡ out.old.items ++ spec.term_text node.now term.now) }
 {
     let clock = clock_name(alloc, node, term.clock)?;
@@ -59,7 +59,7 @@ pub(crate) fn need_text(
     node: &PlacedNode,
     need: &Need,
     out: &mut Vec<u8>,
-) -> Result<(), OutOfMemory>
+) -> Result<(), AllocError>
     ensures { OnOk result (out.new.items ≡ out.old.items ++ spec.need_text node.now need.now) }
 {
     match need {

@@ -18,25 +18,25 @@ use lucy_program::{bytes, number, place_names};
 use lucy_syntax::SyntaxError;
 use lucy_text::Text;
 use lucy_tree::Span;
-use lucy_word::{Limit, OutOfMemory};
-use std::alloc::Global;
+use lucy_word::Limit;
+use std::alloc::{AllocError, Global};
 
 // The line where a limit is passed.
-fn limit_line(alloc: Global, limit: Limit) -> Result<Vec<u8>, OutOfMemory>
+fn limit_line(alloc: Global, limit: Limit) -> Result<Vec<u8>, AllocError>
     ensures { IfOk result (λ v. v.items ≡ spec.limit_line limit) }
 {
     Ok(format!(in alloc; "lucy: limit {} {}\n", limit.name(), limit.number())?.into_bytes())
 }
 
 // The line where memory ran out.
-fn memory_line(alloc: Global) -> Result<Vec<u8>, OutOfMemory>
+fn memory_line(alloc: Global) -> Result<Vec<u8>, AllocError>
     ensures { IfOk result (λ v. v.items ≡ spec.memory_line) }
 {
     Ok(b"lucy: out of memory\n".to_vec(alloc)?)
 }
 
 // The line of a syntax.
-fn syntax_line(alloc: Global, error: SyntaxError) -> Result<Vec<u8>, OutOfMemory>
+fn syntax_line(alloc: Global, error: SyntaxError) -> Result<Vec<u8>, AllocError>
     ensures { IfOk result (λ v. v.items ≡ spec.syntax_line error) }
 {
     let line = match error {
@@ -50,7 +50,7 @@ fn syntax_line(alloc: Global, error: SyntaxError) -> Result<Vec<u8>, OutOfMemory
 }
 
 // The line of a name.
-fn name_line(alloc: Global, error: NameError) -> Result<Vec<u8>, OutOfMemory>
+fn name_line(alloc: Global, error: NameError) -> Result<Vec<u8>, AllocError>
     ensures { IfOk result (λ v. v.items ≡ spec.name_fault_line error) }
 {
     let line = match error {
@@ -68,7 +68,7 @@ fn name_line(alloc: Global, error: NameError) -> Result<Vec<u8>, OutOfMemory>
 }
 
 // Puts places last, each on a line of its own.
-fn place_lines(places: &[Text], lines: &mut Vec<u8>) -> Result<(), OutOfMemory>
+fn place_lines(places: &[Text], lines: &mut Vec<u8>) -> Result<(), AllocError>
     ensures { OnOk result (lines.new.items ≡ lines.old.items ++ flat_map (λ name. codes "  " ++ (name ++ codes "\n")) places.now) }
 {
     'each: for place in places {
@@ -80,7 +80,7 @@ fn place_lines(places: &[Text], lines: &mut Vec<u8>) -> Result<(), OutOfMemory>
 }
 
 // The lines of a clash of types in a node.
-fn path_lines(alloc: Global, node: &PlacedNode, path: &[u32]) -> Result<Vec<u8>, OutOfMemory>
+fn path_lines(alloc: Global, node: &PlacedNode, path: &[u32]) -> Result<Vec<u8>, AllocError>
     ensures { IfOk result (λ v. v.items ≡ codes "lucy: types: node "
         ++ (node.now.name.text ++ (codes ": int against bool\n" ++ flat_map (λ name. codes "  " ++ (name ++ codes "\n")) (place_names node.now path.now)))) }
 {
@@ -93,7 +93,7 @@ fn path_lines(alloc: Global, node: &PlacedNode, path: &[u32]) -> Result<Vec<u8>,
 }
 
 // The line where a node isn't written.
-fn unwritten_line(alloc: Global, node: &PlacedNode, span: Span) -> Result<Vec<u8>, OutOfMemory>
+fn unwritten_line(alloc: Global, node: &PlacedNode, span: Span) -> Result<Vec<u8>, AllocError>
     ensures { IfOk result (λ v. v.items ≡ spec.fault_lines node.now (NotWritten span)) }
 {
     let mut line = Vec::new(alloc);
@@ -111,7 +111,7 @@ fn need_line(
     node: &PlacedNode,
     need: &Need,
     end: &[u8],
-) -> Result<Vec<u8>, OutOfMemory>
+) -> Result<Vec<u8>, AllocError>
     ensures { IfOk result (λ v. v.items ≡ spec.need_line node.now end.now need.now) }
 {
     let mut line = Vec::new(alloc);
@@ -129,7 +129,7 @@ fn check_line(
     node: &PlacedNode,
     needs: &[Need],
     fault: CheckFault,
-) -> Result<Vec<u8>, OutOfMemory>
+) -> Result<Vec<u8>, AllocError>
     requires { spec.NamesNeed needs.now fault }
     ensures { IfOk result (λ v. v.items ≡ spec.check_line node.now needs.now fault) }
 {
@@ -151,7 +151,7 @@ fn check_line(
 }
 
 // The lines of a fault of a node.
-fn fault_lines(alloc: Global, node: &PlacedNode, fault: &NodeFault) -> Result<Vec<u8>, OutOfMemory>
+fn fault_lines(alloc: Global, node: &PlacedNode, fault: &NodeFault) -> Result<Vec<u8>, AllocError>
     requires { spec.IsShown fault.now }
     ensures { IfOk result (λ v. v.items ≡ spec.fault_lines node.now fault.now) }
 {
@@ -174,7 +174,7 @@ fn item_lines(
     names: &[Text],
     items: &[Item],
     lines: &mut Vec<u8>,
-) -> Result<(), OutOfMemory>
+) -> Result<(), AllocError>
     ensures { OnOk result (lines.new.items ≡ lines.old.items ++ spec.item_lines names.now items.now) }
 {
     'each: for (name, item) in names.iter().zip(items) {
@@ -193,7 +193,7 @@ fn cause_lines(
     instant: u64,
     names: &[Text],
     items: &[Item],
-) -> Result<Vec<u8>, OutOfMemory>
+) -> Result<Vec<u8>, AllocError>
     ensures { IfOk result (λ v. v.items ≡ codes "lucy: causality: instant "
         ++ (decimal instant ++ (codes "\n" ++ spec.item_lines names.now items.now))) }
 {
@@ -208,7 +208,7 @@ fn cause_lines(
 /// The text of a refusal that `accept` gives: its line on the fault sink, for a clash of types with the places of its path, for
 /// rates that don't agree with the needs of the walk, for clocks that there are none of with the inequalities of the cycle, and
 /// for a cycle of causality with its items, each on a line of its own.
-pub fn refusal_text(alloc: Global, refusal: &Refusal) -> Result<Vec<u8>, OutOfMemory>
+pub fn refusal_text(alloc: Global, refusal: &Refusal) -> Result<Vec<u8>, AllocError>
     requires { spec.IsTellable refusal.now }
     ensures { IfOk result (λ v. v.items ≡ spec.refusal_text refusal.now) }
 {

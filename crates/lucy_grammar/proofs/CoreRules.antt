@@ -18,7 +18,7 @@ use Rattle.lucy_token.specs.declared.mark.Mark.TheVariants as mark
 use Rattle.lucy_token.specs.declared.token.Kind.{Kind}
 use Rattle.lucy_token.specs.declared.token.What.{What}
 use Rattle.lucy_token.specs.declared.token.What.TheVariants as what
-use Rattle.lucy_token.specs.Spelled.{Printed, in_print}
+use Rattle.lucy_token.specs.Printed.{Printed, in_print}
 use Rattle.lucy_grammar.specs.Printable.{IsPrintableDef, IsPrintableDecl, AllOfSome, Anywhere}
 use Rattle.lucy_grammar.proofs.PrintableLaws.{Goods}
 use Rattle.lucy_grammar.proofs.Cores.{core, core-append, core-parens, put, put_after, put_operand, put_later, put_parens, first_defs, flat_link, flat, token_of, all_flat, some_flat, flats}

@@ -15,7 +15,8 @@ use Rattle.lucy_token.specs.declared.state.Side.TheVariants as side
 use Rattle.lucy_token.specs.Tokens.{kind_of}
 use Rattle.lucy_token.specs.Before.{precedes_operand}
 use Rattle.lucy_token.specs.States.{ScanState, served, after, side_defined, begins_operand, is_past_last}
-use Rattle.lucy_token.specs.Spelled.{is_negative, Printed, in_print, whats_of}
+use Rattle.lucy_token.specs.Printed.{Printed, in_print, whats_of}
+use Rattle.lucy_token.specs.Spelled.{is_negative}
 use Rattle.lucy_token.proofs.StateLaws.{before_after}
 use Rattle.lucy_grammar.specs.PrintTokens.{blank, the, after_commas, commas, parens}
 use Rattle.lucy_grammar.specs.PrintTokens as print

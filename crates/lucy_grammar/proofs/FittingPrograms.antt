@@ -17,7 +17,7 @@ use Rattle.lucy_token.specs.declared.state.Side.{Side}
 use Rattle.lucy_token.specs.declared.state.Side.TheVariants as side
 use Rattle.lucy_token.specs.Before.{precedes_operand}
 use Rattle.lucy_token.specs.States.{ScanState, start, after, side_defined}
-use Rattle.lucy_token.specs.Spelled.{Printed, in_print, whats_of}
+use Rattle.lucy_token.specs.Printed.{Printed, in_print, whats_of}
 use Rattle.lucy_token.proofs.StateLaws.{before_after}
 use Rattle.lucy_tree.specs.Shaped.{IsCall, Defines}
 use Rattle.lucy_grammar.specs.Printable.{IsPrintableDef, IsPrintableNode, IsPrintableProgram, Anywhere}

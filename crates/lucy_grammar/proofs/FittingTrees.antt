@@ -18,7 +18,7 @@ use Rattle.lucy_token.specs.declared.state.Side.{Side}
 use Rattle.lucy_token.specs.declared.state.Side.TheVariants as side
 use Rattle.lucy_token.specs.Before.{precedes_operand}
 use Rattle.lucy_token.specs.States.{after}
-use Rattle.lucy_token.specs.Spelled.{Printed, in_print}
+use Rattle.lucy_token.specs.Printed.{Printed, in_print}
 use Rattle.lucy_token.specs.Marks.{op_mark}
 use Rattle.lucy_grammar.specs.Parens.{kept}
 use Rattle.lucy_grammar.specs.Meanings.{two}

@@ -19,7 +19,8 @@ use Rattle.lucy_token.specs.declared.mark.Mark.{Mark}
 use Rattle.lucy_token.specs.declared.mark.Mark.TheVariants as mark
 use Rattle.lucy_token.specs.declared.token.What.{What}
 use Rattle.lucy_token.specs.declared.token.What.TheVariants as what
-use Rattle.lucy_token.specs.Spelled.{Printed, all_blank, none_of, apart, apart_from, are_apart, in_print}
+use Rattle.lucy_token.specs.Printed.{Printed, in_print}
+use Rattle.lucy_token.specs.Spelled.{all_blank, none_of, apart, apart_from, are_apart}
 use Rattle.lucy_token.proofs.FollowLaws.{apart_close, apart_comma}
 use Rattle.lucy_host.specs.Arity.{arity}
 use Rattle.lucy_token.specs.Marks.{op_mark}

@@ -46,7 +46,6 @@ mod FittingTrees
 mod FittingPrograms
 pub mod RoundTrip
 pub mod Sheets
-mod BoxedForms
 mod Listings
 mod Operands
 mod ReadAgain

@@ -1,7 +1,7 @@
 -- What is printed one after another.
 use Rattle.std.proofs.Common.{ℕ, ◌≡◌, List, [], ◌++◌, ◌∷◌, ap, sym, ◌∙◌, append_assoc, append-nil}
 use Rattle.std.specs.List.{AllByRecursion}
-use Rattle.lucy_token.specs.Spelled.{Printed}
+use Rattle.lucy_token.specs.Printed.{Printed}
 use Rattle.lucy_grammar.specs.PrintTokens.{spaced_text, commas}
 use Rattle.lucy_grammar.proofs.PrintedText.{IsTight, listed, text_commas}
 

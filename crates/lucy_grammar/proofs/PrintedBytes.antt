@@ -16,7 +16,7 @@ use Rattle.lucy_tree.specs.Tree.{Tree, Trees, literal, variable, operator, host,
 use Rattle.lucy_tree.specs.View.{DefTree, NodeTree, ProgramTree}
 use Rattle.lucy_token.specs.declared.mark.Mark.TheVariants as mark
 use Rattle.lucy_token.specs.Marks.{spelling, op_mark}
-use Rattle.lucy_token.specs.Spelled.{Printed}
+use Rattle.lucy_token.specs.Printed.{Printed}
 use Rattle.lucy_grammar.specs.Print.{literal_text, parenthesized, if_written, operand_text, operation_text, tree_text, tree_texts, operand_texts, type_text, decl_text, left_text, def_text, defs_text, node_text, program_text}
 use Rattle.lucy_grammar.specs.PrintTokens.{line, the, words, commas, parens, name_token, word_token, lit_token, operated, called, operand, printed, all_printed, operands, type_mark, typing, clock, printed_decl, printed_left, printed_def, more_defs, printed_body, printed_node, more_nodes, printed_program, spaced_text}
 use Rattle.lucy_grammar.proofs.PrintedText.{IsTight, listed, text-append, text_parens, text_words, text_commas, tight_all, tight_operands, tight_decls, tight_names, text_of_tree, text_of_operand, text_hosted, text_sampled, text_merged, text_followed, text_buffered, text_bounded, text_def, text_more_defs, text_body, text_node, text_more_nodes}

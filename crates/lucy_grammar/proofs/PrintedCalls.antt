@@ -8,7 +8,7 @@ use Rattle.lucy_token.specs.declared.mark.Mark.TheVariants as mark
 use Rattle.lucy_token.specs.declared.token.Kind.{Kind}
 use Rattle.lucy_token.specs.declared.token.What.{What}
 use Rattle.lucy_token.specs.declared.token.What.TheVariants as what
-use Rattle.lucy_token.specs.Spelled.{Printed, in_print}
+use Rattle.lucy_token.specs.Printed.{Printed, in_print}
 use Rattle.lucy_grammar.specs.Symbols.{many, Expr, Pre, Pair, Call, Applied, Base, Args, MoreExpr}
 use Rattle.lucy_grammar.specs.Meanings.{two}
 use Rattle.lucy_grammar.specs.Grammar.{rules}
@@ -63,7 +63,7 @@ the_call n None args h = spell_rule 0 refl (spell_token [] (what.Name n.text) re
 the_call n (Some w) args h = spell_rule 0 refl (spell_token [] (what.Name n.text) refl (spell_part (an_applied (Some w) args h) spell_end))
 
 -- a host form
-pair_pieces : (a b c d : List Printed) → (a ++ (b ++ (c ++ []))) ++ d ≡ a ++ (b ++ (c ++ d))
+pub pair_pieces : (a b c d : List Printed) → (a ++ (b ++ (c ++ []))) ++ d ≡ a ++ (b ++ (c ++ d))
 pair_pieces a b c d = append_assoc a (b ++ (c ++ [])) d ∙ ap (λ u. a ++ u) (append_assoc b (c ++ []) d) ∙ ap (λ u. a ++ (b ++ (u ++ d))) (append-nil c)
 
 a_pair : (a b : Tree) → AreSpelled (two a b) → Is Pair (all_unplaced (two a b)) (after blank (parens (commas (all_printed (two a b)))))

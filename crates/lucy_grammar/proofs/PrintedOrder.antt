@@ -21,7 +21,7 @@ use Rattle.lucy_token.specs.declared.token.Kind.TheVariants as kind
 use Rattle.lucy_token.specs.declared.token.What.{What}
 use Rattle.lucy_token.specs.declared.token.What.TheVariants as what
 use Rattle.lucy_token.specs.Before.{wants_word}
-use Rattle.lucy_token.specs.Spelled.{Printed, in_print, whats_of}
+use Rattle.lucy_token.specs.Printed.{Printed, in_print, whats_of}
 use Rattle.lucy_token.specs.Marks.{op_mark}
 use Rattle.lucy_grammar.specs.PrintTokens.{blank, indent, line, the, after, spaced, words, after_commas, commas, parens, name_token, lit_token, when_mark, operated, called, operand, printed, all_printed, operands, clock, printed_decl, printed_left, printed_def, more_defs, printed_body, printed_node, more_nodes, printed_program}
 use Rattle.lucy_grammar.specs.Printable.{MayBeNamed, IsLit, IsWordBehind, IsPrintable, ArePrintable, AllOfSome, IsPrintableDecl, IsPrintableDef, IsPrintableNode, IsPrintableProgram, AllMayFollow}

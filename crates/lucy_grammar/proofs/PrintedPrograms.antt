@@ -1,7 +1,6 @@
 -- A printed program is read again as the same program, but for places.
 use Rattle.std.proofs.Common.{ℕ, ◌≡◌, List, [], ◌∷◌, ◌++◌, Option, Some, None, map, refl, ap, sym, ◌∙◌, subst, append_assoc}
 use Rattle.std.specs.Prelude.{unwrap_or}
-use Rattle.std.proofs.lemmas.List.{append-nil}
 use Rattle.std.specs.List.{AllByRecursion}
 use Rattle.lucy_word.specs.Bits.{Bits}
 use Rattle.lucy_host.specs.declared.data_type.DataType.{DataType}
@@ -15,7 +14,7 @@ use Rattle.lucy_token.specs.declared.token.Kind.{Kind}
 use Rattle.lucy_token.specs.declared.token.What.{What}
 use Rattle.lucy_token.specs.declared.token.What.TheVariants as what
 use Rattle.lucy_token.specs.declared.token.Token.{Token}
-use Rattle.lucy_token.specs.Spelled.{Printed, in_print, whats_of}
+use Rattle.lucy_token.specs.Printed.{Printed, in_print, whats_of}
 use Rattle.lucy_grammar.specs.Symbols.{part, many, perhaps, Program, Node, Title, Params, Results, MoreName, Body, Decls, MoreDecl, Decl, Typing, ClockOf, Def, MoreDef, Lefts, Call}
 use Rattle.lucy_grammar.specs.Grammar.{rules}
 use Rattle.lucy_grammar.specs.Deriving.{value}
@@ -27,7 +26,7 @@ use Rattle.lucy_grammar.specs.Printable.{MayBeNamed, AllOfSome, IsPrintable, IsP
 use Rattle.lucy_grammar.proofs.Deriving.{of_derivation}
 use Rattle.lucy_grammar.proofs.SpanLaws.{placed}
 use Rattle.lucy_grammar.proofs.Spelling.{plain, plains, Spells, Is, spell_end, spell_token, spell_after, spell_part, spell_again, spell_there, spell_none, spell_out, spell_given, spell_rule}
-use Rattle.lucy_grammar.proofs.PrintedCalls.{printed_is, all_are, the_call}
+use Rattle.lucy_grammar.proofs.PrintedCalls.{printed_is, all_are, the_call, pair_pieces}
 
 -- declarations
 a_typing : (t : DataType) → Is Typing t (in_print blank (what.Mark mark.Colon) ∷ after blank (the (type_mark t)))
@@ -109,9 +108,6 @@ further_defs Q [] h = spell_none spell_end
 further_defs Q (d ∷ ds) h = spell_again (spell_rule 0 refl (spell_token indent (what.Mark mark.And) refl (spell_after blank (a_def Q d h.0)))) (further_defs Q ds h.1)
 
 -- nodes
-node_pieces : (a b c d : List Printed) → (a ++ (b ++ (c ++ []))) ++ d ≡ a ++ (b ++ (c ++ d))
-node_pieces a b c d = append_assoc a (b ++ (c ++ [])) d ∙ ap (λ u. a ++ u) (append_assoc b (c ++ []) d) ∙ ap (λ u. a ++ (b ++ (u ++ d))) (append-nil c)
-
 the_body : (Q : Kind → What → Type 0) (ds : List DefTree) → AllByRecursion (IsPrintableDef Q) ds → (body : Option (List DefTree)) × Spells (perhaps Body ∷ []) (body, tt) (printed_body ds) × (unwrap_or body [] ≡ map unplaced_def ds)
 unfolding rules
 the_body Q [] h = (None, spell_out spell_end, refl)
@@ -137,7 +133,7 @@ a_node_of Q n ps r rs ds h =
     let R : List DefTree → Type 0 = λ u. Is Node (V u) (printed_node (record { name = n; params = ps; results = r ∷ rs; defs = ds })) in
     let whole : Is Node (V (unwrap_or body.0 [])) (in_print [] (what.Mark mark.Let) ∷ in_print blank (what.Mark mark.Node) ∷ in_print blank (what.Name n.text) ∷ (head ++ (in_print blank (what.Mark mark.Equals) ∷ (tail ++ printed_body ds)))) =
     spell_rule 0 refl (spell_part (a_title n) (spell_part (the_params ps) (spell_token blank (what.Mark mark.Equals) refl (spell_part (the_results r rs) body.1)))) in
-    subst R body.2 (subst P (sym (node_pieces head (in_print blank (what.Mark mark.Equals) ∷ []) tail (printed_body ds))) whole)
+    subst R body.2 (subst P (sym (pair_pieces head (in_print blank (what.Mark mark.Equals) ∷ []) tail (printed_body ds))) whole)
 
 a_node : (Q : Kind → What → Type 0) (n : NodeTree) → IsPrintableNode Q n → Is Node (unplaced_node n) (printed_node n)
 a_node Q n h = go n.results h.results

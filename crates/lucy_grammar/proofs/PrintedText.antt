@@ -13,7 +13,7 @@ use Rattle.lucy_tree.specs.Tree.{Tree, Trees, literal, variable, operator, host,
 use Rattle.lucy_tree.specs.View.{DefTree, NodeTree}
 use Rattle.lucy_token.specs.declared.mark.Mark.TheVariants as mark
 use Rattle.lucy_token.specs.declared.token.What.TheVariants as what
-use Rattle.lucy_token.specs.Spelled.{Printed, text_of_what}
+use Rattle.lucy_token.specs.Printed.{Printed, text_of_what}
 use Rattle.lucy_token.specs.Marks.{op_mark}
 use Rattle.lucy_grammar.specs.Meanings.{two}
 use Rattle.lucy_grammar.specs.Sheets.{call_front}

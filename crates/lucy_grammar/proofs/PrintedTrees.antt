@@ -14,7 +14,7 @@ use Rattle.lucy_tree.specs.declared.expr.Lit.TheVariants as lit
 use Rattle.lucy_tree.specs.Tree.{Tree, Trees, literal, variable, operator, sampled, merged, followed, buffered, no_more, more, list_of}
 use Rattle.lucy_token.specs.declared.mark.Mark.TheVariants as mark
 use Rattle.lucy_token.specs.declared.token.What.TheVariants as what
-use Rattle.lucy_token.specs.Spelled.{Printed, in_print}
+use Rattle.lucy_token.specs.Printed.{Printed, in_print}
 use Rattle.lucy_grammar.specs.Symbols.{Expr, Or, And, Cmp, CmpOp, Sum, SumOp, Prod, ProdOp, Samp, Sampling, Pre, Form, Buffered, Held, Atom, Small, Lit}
 use Rattle.lucy_grammar.specs.Meanings.{two}
 use Rattle.lucy_grammar.specs.Grammar.{rules}

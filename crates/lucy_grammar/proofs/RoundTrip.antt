@@ -12,7 +12,8 @@ use Rattle.lucy_token.specs.Before.{nearest, wants_word}
 use Rattle.lucy_token.specs.States.{start, state_of}
 use Rattle.lucy_token.specs.Cuts.{Cuts}
 use Rattle.lucy_token.specs.Written.{IsWritten, AreWritten}
-use Rattle.lucy_token.specs.Spelled.{text_of_what, bytes_of, whats_of, placed, is_word, IsSpelled, MayStandHere, AllStand, PrintsBehind, Printed}
+use Rattle.lucy_token.specs.Printed.{text_of_what, bytes_of, whats_of, Printed}
+use Rattle.lucy_token.specs.Spelled.{placed, is_word, IsSpelled, MayStandHere, AllStand, PrintsBehind}
 use Rattle.lucy_token.proofs.StateLaws.{limit_same, entry_past_same, operand_same}
 use Rattle.lucy_token.proofs.WrittenLaws.{tokens_written}
 use Rattle.lucy_token.proofs.FollowLaws.{placed_whats}
@@ -38,7 +39,7 @@ use Rattle.lucy_grammar.proofs.Fitting.{AllFit}
 use Rattle.lucy_grammar.proofs.FittingPrograms.{program_fits}
 
 -- tokens as they may be written, each behind the one before it
-stand_written : (before : Kind) (ts : List Token) → AreWritten before ts → StandAfter IsWritten before ts
+pub stand_written : (before : Kind) (ts : List Token) → AreWritten before ts → StandAfter IsWritten before ts
 stand_written before [] h = tt
 stand_written before (t ∷ ts) h = (h.0, stand_written (kind_of t.what) ts h.1)
 

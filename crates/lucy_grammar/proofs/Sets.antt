@@ -1,6 +1,6 @@
 -- Sets of numbers.
 use Rattle.std.proofs.Common.{ℕ, ◌≡◌, Bool, true, false, List, [], ◌∷◌, ◌++◌, eqb, ◌&&◌, ◌||◌, not, refl, ap, sym, ◌∙◌, subst, arith}
-use Rattle.std.proofs.lemmas.Bool.{both_ways}
+use Rattle.std.proofs.lemmas.Bool.{both_ways, or_right, eqb-true}
 use Rattle.std.proofs.lemmas.Bool.Decides.{nat_tests}
 use Rattle.lucy_grammar.specs.Sets.{within, subset, apart}
 
@@ -16,19 +16,12 @@ or_more : (a b c : Bool) → (b ≡ true → c ≡ true) → (a || b) ≡ true �
 or_more true b c f h = refl
 or_more false b c f h = f h
 
-or_right : (a b : Bool) → b ≡ true → (a || b) ≡ true
-or_right true b h = refl
-or_right false b h = h
-
-equal_from : (x k : ℕ) → eqb x k ≡ true → x ≡ k
-equal_from x k h = grind (arith, nat_tests)
-
 -- a number of a list is the first one or stands behind it
 pub within_cases : (x k : ℕ) (xs : List ℕ) (P : Type 0) → within k (x ∷ xs) ≡ true → (x ≡ k → P) → (within k xs ≡ true → P) → P
 within_cases x k xs P h here there = go (eqb x k) refl h
   where
     go : (b : Bool) → eqb x k ≡ b → (b || within k xs) ≡ true → P
-    go true e w = here (equal_from x k e)
+    go true e w = here (eqb-true x k e)
     go false e w = there w
 
 pub within_subset : (xs ys : List ℕ) (k : ℕ) → subset xs ys ≡ true → within k xs ≡ true → within k ys ≡ true

@@ -7,6 +7,7 @@ use Rattle.std.proofs.lemmas.List.{map-append}
 use Rattle.lucy_word.specs.Bits.{Bits}
 use Rattle.lucy_word.specs.Limits.{limit_number}
 use Rattle.lucy_word.specs.declared.limit.Limit.TheVariants as limit
+use Rattle.lucy_word.proofs.Lists.{all_weaker}
 use Rattle.lucy_tree.specs.Tree.{Tree, Trees, literal, variable, operator, host, sampled, merged, followed, buffered, call, no_more, more}
 use Rattle.lucy_tree.specs.View.{DefTree, NodeTree, ProgramTree}
 use Rattle.lucy_tree.specs.Shaped.{HasZero, IsShaped, AreShaped, IsShapedDef, IsShapedNode, IsShapedProgram}
@@ -20,7 +21,7 @@ use Rattle.lucy_token.specs.Tokens.{kind_of}
 use Rattle.lucy_token.specs.Before.{wants_zero}
 use Rattle.lucy_token.specs.States.{start, nodes_after}
 use Rattle.lucy_token.specs.Written.{IsWritten}
-use Rattle.lucy_token.specs.Spelled.{Printed, whats_of}
+use Rattle.lucy_token.specs.Printed.{Printed, whats_of}
 use Rattle.lucy_grammar.specs.PrintTokens.{line, after, when_mark, printed_node, more_nodes, printed_program}
 use Rattle.lucy_grammar.specs.Printable.{IsPrintable, ArePrintable, IsPrintableDef, IsPrintableNode, IsPrintableProgram}
 use Rattle.lucy_grammar.specs.Texts.{HasTree}
@@ -48,19 +49,15 @@ mutual
   shaped_trees no_more h = tt
   shaped_trees (more t ts) h = (shaped_tree t h.0, shaped_trees ts h.1)
 
-each : {A : Type 0} (P Q : A → Type 0) → ((x : A) → P x → Q x) → (xs : List A) → AllByRecursion P xs → AllByRecursion Q xs
-each P Q f [] h = tt
-each P Q f (x ∷ xs) h = (f x h.0, each P Q f xs h.1)
-
 shaped_def : (d : DefTree) → IsPrintableDef IsWritten d → IsShapedDef d
 shaped_def d h = record { right = shaped_tree d.right h.right; defines = h.defines }
 
 shaped_node : (n : NodeTree) → IsPrintableNode IsWritten n → IsShapedNode n
-shaped_node n h = each (IsPrintableDef IsWritten) IsShapedDef shaped_def n.defs h.defs
+shaped_node n h = all_weaker (IsPrintableDef IsWritten) IsShapedDef n.defs shaped_def h.defs
 
 shaped_nodes : (p : ProgramTree) → IsPrintableProgram IsWritten p → AllByRecursion IsShapedNode p
 shaped_nodes [] h = tt
-shaped_nodes (n ∷ ns) h = (shaped_node n h.0, each (IsPrintableNode IsWritten) IsShapedNode shaped_node ns h.1)
+shaped_nodes (n ∷ ns) h = (shaped_node n h.0, all_weaker (IsPrintableNode IsWritten) IsShapedNode ns shaped_node h.1)
 
 -- there is a node
 some_node : (p : ProgramTree) → IsPrintableProgram IsWritten p → 0 < length p

@@ -6,7 +6,7 @@ use Rattle.lucy_token.specs.declared.token.Kind.{Kind}
 use Rattle.lucy_token.specs.declared.token.What.{What}
 use Rattle.lucy_token.specs.declared.token.Token.{Token}
 use Rattle.lucy_token.specs.Tokens.{kind_of}
-use Rattle.lucy_token.specs.Spelled.{Printed, in_print}
+use Rattle.lucy_token.specs.Printed.{Printed, in_print}
 use Rattle.lucy_grammar.specs.Symbols.{Part, Sym, token, any, part, many, perhaps, Rule, Val, Vals}
 use Rattle.lucy_grammar.specs.Kinds.{Sort, of, Fits}
 use Rattle.lucy_grammar.specs.Grammar.{rules}

@@ -19,7 +19,7 @@ use Rattle.lucy_token.specs.declared.token.Kind.TheVariants as kind
 use Rattle.std.specs.Prelude.{pos}
 use Rattle.lucy_token.specs.declared.token.What.{What}
 use Rattle.lucy_token.specs.declared.token.What.TheVariants as what
-use Rattle.lucy_token.specs.Spelled.{Printed}
+use Rattle.lucy_token.specs.Printed.{Printed}
 use Rattle.lucy_token.specs.Marks.{op_mark}
 use Rattle.lucy_grammar.specs.PrintTokens.{blank, indent, line, the, after, spaced, words, after_commas, commas, parens, name_token, word_token, lit_token, when_mark, operated, called, one, held, operand, printed, all_printed, operands, printed_decl, printed_left, printed_def, more_defs, printed_body, printed_node, more_nodes, printed_program}
 use Rattle.lucy_grammar.proofs.Cores.{core, core-append, core-after, core-parens, core-operand, put_after}

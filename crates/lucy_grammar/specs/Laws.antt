@@ -5,11 +5,11 @@ use Rattle.lucy_token.specs.declared.token.Token.{Token}
 use Rattle.lucy_token.specs.declared.stop.Stop.TheVariants.{End}
 use Rattle.lucy_token.specs.declared.stop.SyntaxError.{SyntaxError}
 use Rattle.lucy_token.specs.Cuts.{Cuts}
-use Rattle.lucy_token.specs.Spelled.{whats_of}
+use Rattle.lucy_token.specs.Printed.{whats_of}
 use Rattle.lucy_grammar.specs.Parens.{without_parens}
 use Rattle.lucy_grammar.specs.Print.{program_text}
 use Rattle.lucy_grammar.specs.Printable.{IsPrintableProgram, Anywhere}
-use Rattle.lucy_grammar.specs.PrintTokens.{printed_program}
+use Rattle.lucy_grammar.specs.PrintTokens.{line, printed_program, spaced_text}
 use Rattle.lucy_grammar.specs.Programs.{IsProgram, BeginsProgram, IsFirstUnfit}
 use Rattle.lucy_grammar.specs.Spans.{IsAlike}
 use Rattle.lucy_grammar.specs.Texts.{HasTree, IsRefused}
@@ -25,9 +25,10 @@ pub record OneRefusal : Type 0 where
   pub or_program : (ts : List Token) (p : ProgramTree) (rest : List Token) → IsProgram ts p → IsFirstUnfit ts rest → ⊥
   pub fronts : (front back : List Token) → BeginsProgram (front ++ back) → BeginsProgram front
 
--- every program can be printed, by its own tokens but for parentheses, and tokens that are the printed ones are that program again, but
--- for places
+-- the bytes of a program's tokens in print, and the end of a line, are its printed text; every program can be printed, by its own tokens but for
+-- parentheses; and tokens that are the printed ones are that program again, but for places
 pub record PrintedAgain : Type 0 where
+  pub text : (p : ProgramTree) → spaced_text (printed_program p) ++ line ≡ program_text p
   pub printable : (ts : List Token) (p : ProgramTree) → IsProgram ts p → IsPrintableProgram Anywhere p
   pub parens : (ts : List Token) (p : ProgramTree) → IsProgram ts p →
       without_parens (map (λ t. t.what) ts) ≡ without_parens (whats_of (printed_program p))

@@ -1,4 +1,4 @@
--- The tokens of a printed program in order, each with the blanks before it.
+-- The tokens of a printed program in order, each with the blanks before it: token by token the text that `Print.antt` says.
 use Rattle.std.specs.Prelude.{ℕ, pos, Bool, true, false, List, [], ◌∷◌, ◌++◌, Option, Some, None, map, flat_map}
 use Rattle.std.specs.Option.{option_map_or}
 use Rattle.lucy_word.specs.Bits.{Bits}
@@ -16,7 +16,7 @@ use Rattle.lucy_token.specs.declared.mark.Mark.TheVariants as mark
 use Rattle.lucy_token.specs.declared.token.What.{What}
 use Rattle.lucy_token.specs.declared.token.What.TheVariants as what
 use Rattle.lucy_token.specs.Marks.{op_mark}
-use Rattle.lucy_token.specs.Spelled.{Printed, in_print, bytes_of}
+use Rattle.lucy_token.specs.Printed.{Printed, in_print, bytes_of}
 
 -- a blank
 abbrev pub blank : List ℕ
@@ -79,7 +79,7 @@ lit_token (lit.Int n) = one (what.Number n)
 lit_token (lit.Bool true) = the mark.True
 lit_token (lit.Bool false) = the mark.False
 
--- the keyword of a sampling
+-- the keyword of a sampling: `when`, or `whenot` where it takes the items at the zeros of its word
 abbrev pub when_mark : Bool → Mark
 when_mark false = mark.When
 when_mark true = mark.Whenot

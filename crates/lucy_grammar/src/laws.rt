@@ -11,8 +11,8 @@ pub fn one_refusal()
     ensures { OneRefusal }
 {}
 
-/// Every program can be printed, by its own tokens but for parentheses, and tokens that are the printed ones are that
-/// program again, but for places.
+/// The bytes of a program's tokens in print, and the end of a line, are its printed text. Every program can be printed, by its
+/// own tokens but for parentheses, and tokens that are the printed ones are that program again, but for places.
 pub fn printed_again()
     ensures { PrintedAgain }
 {}

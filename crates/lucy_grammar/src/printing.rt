@@ -11,11 +11,10 @@ ghost use Rattle.lucy_grammar.specs.Texts.{HasTree};
 use crate::program::{line, nodes};
 use crate::sheet::Sheet;
 use lucy_tree::Program;
-use lucy_word::OutOfMemory;
-use std::alloc::Global;
+use std::alloc::{AllocError, Global};
 
 // The bytes of a program's tokens in print, and the end of the last line.
-fn written(alloc: Global, program: &Program) -> Result<Vec<u8>, OutOfMemory>
+fn written(alloc: Global, program: &Program) -> Result<Vec<u8>, AllocError>
     ensures { IfOk result (λ text. text.items ≡ spaced_text (printed_program (program_tree program.now)) ++ line) }
 {
     let mut out = Sheet::new(alloc);
@@ -26,7 +25,7 @@ fn written(alloc: Global, program: &Program) -> Result<Vec<u8>, OutOfMemory>
 
 /// The text of a program: a node after another, each definition on a line of its own, every operand but a literal or a
 /// name in parentheses.
-pub fn print(alloc: Global, program: &Program) -> Result<Vec<u8>, OutOfMemory>
+pub fn print(alloc: Global, program: &Program) -> Result<Vec<u8>, AllocError>
     ensures text { IfOk result (λ text. text.items ≡ program_text (program_tree program.now)) }
 
     // The text of a program that was read, where it is no longer than a program may be, is read as that program again, but

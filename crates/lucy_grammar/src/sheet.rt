@@ -7,8 +7,8 @@ ghost use Rattle.lucy_grammar.specs.Sheets.{Adds};
 use lucy_host::DataType;
 use lucy_token::Mark;
 use lucy_tree::{Lit, Name};
-use lucy_word::{OutOfMemory, Word};
-use std::alloc::Global;
+use lucy_word::Word;
+use std::alloc::{AllocError, Global};
 use std::marker::Model;
 
 /// What is printed so far. Once memory ran out, no more is, and in the end there is no text: so who prints has no way out but the
@@ -41,12 +41,12 @@ impl Sheet {
     }
 
     /// The text.
-    pub(crate) fn text(self) -> Result<Vec<u8>, OutOfMemory>
+    pub(crate) fn text(self) -> Result<Vec<u8>, AllocError>
         ensures { IfOk result (λ text. self ≡ Some text.items) }
     {
         let Sheet { bytes, full, .. } = self;
         if full {
-            return Err(OutOfMemory);
+            return Err(AllocError);
         }
         Ok(bytes)
     }
@@ -117,7 +117,7 @@ impl Sheet {
         }
         match word.print(self.alloc, &mut self.bytes) {
             Ok(()) => {}
-            Err(OutOfMemory) => self.full = true,
+            Err(AllocError) => self.full = true,
         }
     }
 

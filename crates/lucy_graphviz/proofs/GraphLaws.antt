@@ -4,7 +4,7 @@ use Rattle.std.specs.Prelude.{flat_map}
 use Rattle.std.specs.List.{range_with_len}
 use Rattle.lucy_place.specs.declared.placed.PlacedNode.{PlacedNode}
 use Rattle.lucy_place.specs.Standing.{most_places}
-use Rattle.lucy_types.proofs.ListLaws.{at_one_within}
+use Rattle.lucy_place.proofs.NodeLaws.{at_one_within}
 use Rattle.lucy_picture.proofs.TextLaws.{piece_more}
 use Rattle.lucy_diagram.specs.declared.call.DrawnCall.{DrawnCall}
 use Rattle.lucy_diagram.specs.Diagrams.{IsDrawnCall}

@@ -4,6 +4,7 @@ use Rattle.std.specs.Prelude.{codes, flat_map, slice_get, sum_by}
 use Rattle.std.proofs.Math.Path.{fun_ext}
 use Rattle.std.proofs.lemmas.List.{drop_all, length-map}
 use Rattle.std.proofs.lemmas.List.Sums.{sum_by-cons}
+use Rattle.lucy_word.proofs.Lists.{five}
 use Rattle.lucy_host.specs.Operators.{Operator}
 use Rattle.lucy_tree.specs.View.{ProgramTree}
 use Rattle.lucy_place.specs.declared.entry.CallSite.{CallSite}
@@ -21,7 +22,7 @@ use Rattle.lucy_program.specs.Scheduled.{main_output}
 use Rattle.lucy_program.specs.declared.accepted.Accepted.{Accepted}
 use Rattle.lucy_program.specs.declared.options.Options.{Options}
 use Rattle.lucy_program.specs.Accepting.{IsAccepted}
-use Rattle.lucy_picture.proofs.TextLaws.{piece_more, drop_suc, four}
+use Rattle.lucy_picture.proofs.TextLaws.{piece_more, drop_suc}
 use Rattle.lucy_diagram.specs.Diagrams.{drawn_from, drawn_places}
 use Rattle.lucy_graphviz.specs.Graphs.{head_text}
 use Rattle.lucy_graphviz.specs.Nets.{numbered, path_to, base_label, call_label, frame_text, actor_text, frames_text, instance_in, instance_text, output_text, ring_text, net_text}
@@ -132,12 +133,6 @@ few_actors ops o text a is =
     let last : ℕ = length a.placed.nodes - 1 in
     let count = ap length is.outputs ∙ outputs_count (λ n. main_output n (table_at a.typed last) (words_in (slice_get a.clocks.items last))) (main_of a.placed.nodes) in
     omega (arith, flat.count, flat.proper.few_actors, count)
-
--- five pieces of a text
-five : (a b c d e f p q r s t : List ℕ) → b ≡ a ++ p → c ≡ b ++ q → d ≡ c ++ r → e ≡ d ++ s → f ≡ e ++ t → f ≡ a ++ (p ++ (q ++ (r ++ (s ++ t))))
-five a b c d e f p q r s t one two three more last =
-    last ∙ ap (λ x. x ++ t) (four a b c d e p q r s one two three more) ∙ append_assoc a (p ++ (q ++ (r ++ s))) t
-    ∙ ap (λ x. a ++ x) (append_assoc p (q ++ (r ++ s)) t ∙ ap (λ x. p ++ x) (append_assoc q (r ++ s) t ∙ ap (λ x. q ++ x) (append_assoc r s t)))
 
 -- the drawing of a net by its pieces
 pub net_is : (program : ProgramTree) (a : Accepted) (name : List ℕ) (main next : ℕ) (outputs : List OutputSpec) (old head boxes more rings new : List ℕ) → main ≡ length a.placed.nodes - 1 →

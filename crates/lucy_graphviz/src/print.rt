@@ -23,9 +23,8 @@ use instances::put_program;
 use lucy_place::Placed;
 use lucy_program::Accepted;
 use lucy_tree::Program;
-use lucy_word::OutOfMemory;
 use node::put_node;
-use std::alloc::Global;
+use std::alloc::{AllocError, Global};
 
 // The number of the node that is drawn: main's, where none is given.
 fn drawn_node(placed: &Placed, node: Option<u32>) -> u32
@@ -51,7 +50,7 @@ pub fn put_net(
     node: Option<u32>,
     flat: bool,
     out: &mut Vec<u8>,
-) -> Result<(), OutOfMemory>
+) -> Result<(), AllocError>
     requires accepted { (ops : List Operator) × (o : Choices) × (text : List ℕ) × IsAccepted ops o text accepted.now }
     requires node { IfSome node (λ n. n < length accepted.now.placed.nodes) }
     ensures node { (n : Node) → flat ≡ false → slice_get accepted.now.placed.nodes (unwrap_or node (length accepted.now.placed.nodes - 1)) ≡ Some n →

@@ -1,3 +1,4 @@
+pub mod Elements
 pub mod NumberLaws
 pub mod OpLaws
 pub mod OpsLaws

@@ -4,7 +4,7 @@ use Rattle.std.proofs.lemmas.Bool.Decides.{Decides-int_eq}
 use Rattle.std.proofs.lemmas.Int.{ints, quot-rem, int_wrap_fits}
 use Rattle.std.specs.Int.{int_wrap}
 use lib.Signed.{mag_rem}
-use Rattle.lucy_host.specs.Numbers.{least, minus_one, wrapped}
+use Rattle.lucy_host.specs.Numbers.{least_number, minus_one, wrapped}
 use Rattle.lucy_host.specs.OpValue.{remainder}
 
 both : (s t : Bool) → s && t ≡ true → (s ≡ true) × (t ≡ true)
@@ -21,13 +21,13 @@ rem_fits a b f = record { sfits = omega (arith, f.sfits, mag_rem a b) }
 -- the remainder is that of the division which rounds towards zero
 pub remainder_is : (a b : ℤ) → FitsSigned w64 a → (b ≡ pos 0 → ⊥) → int_rem a b ≡ remainder a b
 unfolding int_wrap
-remainder_is a b f some = by (int_eq b (pos 0)) (int_eq a least && int_eq b minus_one) refl refl
+remainder_is a b f some = by (int_eq b (pos 0)) (int_eq a least_number && int_eq b minus_one) refl refl
   where
-    by : (s t : Bool) → int_eq b (pos 0) ≡ s → int_eq a least && int_eq b minus_one ≡ t → int_rem a b ≡ cond s a (wrapped (a -ℤ cond s (pos 0) (cond t least (int_div a b)) *ℤ b))
+    by : (s t : Bool) → int_eq b (pos 0) ≡ s → int_eq a least_number && int_eq b minus_one ≡ t → int_rem a b ≡ cond s a (wrapped (a -ℤ cond s (pos 0) (cond t least_number (int_div a b)) *ℤ b))
     by true t p q = absurd (some ((Decides-int_eq b (pos 0)).0 p))
     by false true p q =
-        let e = both (int_eq a least) (int_eq b minus_one) q in
-        let x : a ≡ least = (Decides-int_eq a least).0 e.0 in
+        let e = both (int_eq a least_number) (int_eq b minus_one) q in
+        let x : a ≡ least_number = (Decides-int_eq a least_number).0 e.0 in
         let y : b ≡ minus_one = (Decides-int_eq b minus_one).0 e.1 in
         rw (x, y) refl
     by false false p q =

@@ -3,8 +3,8 @@ use Rattle.std.specs.Prelude.{ℤ, pos, neg_ℤ, ◌^◌}
 use Rattle.std.specs.Int.{w64, int_wrap, saturate_signed}
 
 -- the least of them
-abbrev pub least : ℤ
-least = neg_ℤ (pos (2 ^ 63))
+abbrev pub least_number : ℤ
+least_number = neg_ℤ (pos (2 ^ 63))
 
 -- the number -1
 abbrev pub minus_one : ℤ

@@ -2,10 +2,6 @@ ghost use Rattle.std.specs.Prelude.{◌≡◌};
 
 use std::alloc::{AllocError, AllocFailed};
 
-/// Memory ran out.
-#[derive(Clone, Copy)]
-pub struct OutOfMemory;
-
 /// Why an operator was not added.
 #[derive(Clone, Copy)]
 pub enum OpsError {
@@ -13,18 +9,6 @@ pub enum OpsError {
     Twice,
     /// Memory ran out, which says nothing of the name.
     OutOfMemory,
-}
-
-impl From<AllocError> for OutOfMemory {
-    fn from(_: AllocError) -> Self {
-        OutOfMemory
-    }
-}
-
-impl<T: Drop> From<AllocFailed<T>> for OutOfMemory {
-    fn from(_: AllocFailed<T>) -> Self {
-        OutOfMemory
-    }
 }
 
 impl From<AllocError> for OpsError {

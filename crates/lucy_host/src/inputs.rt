@@ -1,7 +1,6 @@
 ghost use Rattle.std.specs.Prelude.{◌≡◌, ◌<◌, ◌-◌, ◌^◌, [], ◌∷◌, ◌++◌, IfOk, OnErr, Some, length, slice_get, slice_index_or, slice_set};
 
-use crate::OutOfMemory;
-use std::alloc::Global;
+use std::alloc::{AllocError, Global};
 use std::marker::Model;
 
 /// Lists of numbers, by number from 0, as the values of a program's inputs or results. Contracts see the lists.
@@ -30,7 +29,7 @@ impl Inputs {
     }
 
     /// One more list, which is empty, with the next number. There must be fewer than 2^32 - 1.
-    pub fn add_list(&mut self, alloc: Global) -> Result<(), OutOfMemory>
+    pub fn add_list(&mut self, alloc: Global) -> Result<(), AllocError>
         requires { length self.old < 2 ^ 32 - 1 }
         ensures ok { IfOk result (λ _. self.new ≡ self.old ++ [] ∷ []) }
         ensures refused { OnErr result (self.new ≡ self.old) }
@@ -40,7 +39,7 @@ impl Inputs {
     }
 
     /// One more number at the end of the list of this number, which is there.
-    pub fn push(&mut self, alloc: Global, list: u32, value: i64) -> Result<(), OutOfMemory>
+    pub fn push(&mut self, alloc: Global, list: u32, value: i64) -> Result<(), AllocError>
         requires { list < length self.old }
         ensures ok { IfOk result (λ _. self.new ≡ slice_set self.old list (slice_index_or self.old list [] ++ value ∷ [])) }
         ensures refused { OnErr result (self.new ≡ self.old) }

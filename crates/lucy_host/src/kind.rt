@@ -2,8 +2,8 @@ ghost use Rattle.std.specs.Prelude.{◌≡◌, ◌<◌, ◌^◌, ◌*ℤ◌, pos
 ghost use Rattle.lucy_host.specs.Numbers.{wrapped};
 ghost use Rattle.lucy_host.specs.HostValue.{host_value, shifted};
 
-use crate::{OutOfMemory, Table};
-use std::alloc::Global;
+use crate::Table;
+use std::alloc::{AllocError, Global};
 
 /// The kinds of operators that a host can lend a program. Each has two numbers as operands, and gives one.
 ///
@@ -29,7 +29,7 @@ pub enum HostKind {
 
 impl HostKind {
     /// The same kind once more.
-    pub(crate) fn copy(&self, alloc: Global) -> Result<HostKind, OutOfMemory>
+    pub(crate) fn copy(&self, alloc: Global) -> Result<HostKind, AllocError>
         ensures { IfOk result (λ kind. kind ≡ self.now) }
     {
         Ok(match self {

@@ -15,10 +15,11 @@ mod ops;
 mod table;
 
 pub use data_type::DataType;
-pub use error::{OpsError, OutOfMemory};
+pub use error::OpsError;
 pub use host::Host;
 pub use inputs::Inputs;
 pub use kind::{HostKind, host_value};
 pub use op::{Op, op_value};
 pub use ops::Ops;
+pub use std::alloc::AllocError as OutOfMemory;
 pub use table::Table;

@@ -4,8 +4,8 @@ ghost use Rattle.lucy_host.specs.HostValue.{hosted_value};
 ghost use Rattle.lucy_host.specs.Entries.{operator_of};
 ghost use Rattle.lucy_host.specs.Operators.{most_operators, kinds_of, names_of, operator_number};
 
-use crate::{HostKind, OpsError, OutOfMemory, host_value};
-use std::alloc::Global;
+use crate::{HostKind, OpsError, host_value};
+use std::alloc::{AllocError, Global};
 use std::marker::Model;
 
 /// An operator that a host lends.
@@ -16,7 +16,7 @@ pub(crate) struct Entry {
 }
 
 impl Entry {
-    fn copy(&self, alloc: Global) -> Result<Entry, OutOfMemory>
+    fn copy(&self, alloc: Global) -> Result<Entry, AllocError>
         ensures { IfOk result (λ entry. operator_of entry ≡ operator_of self.now) }
     {
         Ok(Entry {
@@ -117,7 +117,7 @@ impl Ops {
     }
 
     /// The same operators in other memory.
-    pub fn copy(&self, alloc: Global) -> Result<Ops, OutOfMemory>
+    pub fn copy(&self, alloc: Global) -> Result<Ops, AllocError>
         ensures { IfOk result (λ ops. ops ≡ self.now) }
     {
         let mut list = Vec::new(alloc);

@@ -1,8 +1,7 @@
 ghost use Rattle.std.specs.Prelude.{◌≡◌, IfOk};
 ghost use Rattle.lucy_host.specs.HostValue.{looked_up};
 
-use crate::OutOfMemory;
-use std::alloc::Global;
+use std::alloc::{AllocError, Global};
 use std::marker::Model;
 
 /// A list of numbers in which an operator looks up its first operand. Contracts see the list.
@@ -35,7 +34,7 @@ impl Table {
     }
 
     /// The same table in other memory.
-    pub fn copy(&self, alloc: Global) -> Result<Table, OutOfMemory>
+    pub fn copy(&self, alloc: Global) -> Result<Table, AllocError>
         ensures { IfOk result (λ table. table ≡ self.now) }
     {
         Ok(Table {

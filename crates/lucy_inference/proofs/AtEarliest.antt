@@ -31,7 +31,7 @@ places_same v w number is_v is_w same =
     IsIndex-one w number (index_of v number) (index_of w number) (IsIndex-same v w number (index_of v number) same (place_law v number is_v)) (place_law w number is_w)
 
 -- so has the base, in all assignments that fit
-base_at : (shape : Shape) (v w : Assignment) (number : ℕ) → IsFitting shape v → IsFitting shape w → 0 < length shape.clocks → index_of (v 0) number ≡ index_of (w 0) number
+pub base_at : (shape : Shape) (v w : Assignment) (number : ℕ) → IsFitting shape v → IsFitting shape w → 0 < length shape.clocks → index_of (v 0) number ≡ index_of (w 0) number
 base_at shape v w number first second some =
     places_same (v 0) (w 0) number (first.words 0 some) (second.words 0 some) (same_trans (v 0) always (w 0) first.base (same_sym (w 0) always second.base))
 

@@ -1,12 +1,12 @@
 -- Needs have one answer: words and sizes, or one reason why there are none.
-use Rattle.std.proofs.Common.{◌≡◌, ℕ, ◌+◌, ◌-◌, ◌<◌, ◌≤◌, true, false, Bool, length, List, inl, inr, sym, ap, ◌∙◌, subst, refl, arith}
+use Rattle.std.proofs.Common.{◌≡◌, ℕ, ◌+◌, ◌-◌, ◌<◌, ◌≤◌, length, List, inl, inr, sym, ap, ◌∙◌, subst, arith}
 use Rattle.std.proofs.lemmas.List.{ext_get_or}
 use Rattle.std.proofs.lemmas.List.Elements.{All-from_recursion}
 use Rattle.lucy_word.specs.Bits.{Bits, bit_at, one_if, ones_to, IsWord, most_bits}
 use Rattle.lucy_word.specs.Always.{always}
 use Rattle.lucy_word.specs.Shortest.{Same, IsShortest}
 use Rattle.lucy_word.specs.declared.limit.Limit.{Limit}
-use Rattle.lucy_word.proofs.BitsLaws.{ones_to-more, period_some}
+use Rattle.lucy_word.proofs.BitsLaws.{ones_to-more, period_some, same_bit}
 use Rattle.lucy_word.proofs.IndexLaws.{IsIndex-behind, IsIndex-there}
 use Rattle.lucy_word.proofs.ShortLaws.{shortest_one}
 use Rattle.lucy_need.specs.Meeting.{Assignment, assigned, word_bits}
@@ -29,13 +29,6 @@ use Rattle.lucy_inference.specs.Inference.{HasLongClock, IsInference}
 use Rattle.lucy_inference.specs.Stages.{IsInferenceIn}
 use Rattle.lucy_inference.specs.Refusals.{PassesLimitIn, HasNoClocks, RefusesIn, RefusesShape, RefusesInference, AreAlike}
 
--- words with the same places of ones are the same
-one_bit : (x y : Bool) → one_if x ≡ one_if y → x ≡ y
-one_bit true true h = refl
-one_bit true false h = absurd (omega arith)
-one_bit false true h = absurd (omega arith)
-one_bit false false h = refl
-
 -- no more ones in v than in w up to an instant, where those of w stand no later
 fewer : (v w : Bits) → IsWord v → IsWord w → ((k : ℕ) → index_of v k ≡ index_of w k) → (i : ℕ) → ones_to v i ≤ ones_to w i
 fewer v w is_v is_w places i =
@@ -50,7 +43,7 @@ same_by_places v w is_v is_w places i some =
     let here : i - 1 + 1 ≡ i = omega arith in
     let bit : one_if (bit_at v (i - 1 + 1)) ≡ one_if (bit_at w (i - 1 + 1)) =
     omega (arith, ones_to-more v (i - 1), ones_to-more w (i - 1), up (i - 1), down (i - 1), up (i - 1 + 1), down (i - 1 + 1)) in
-    subst (λ k. bit_at v k ≡ bit_at w k) here (one_bit (bit_at v (i - 1 + 1)) (bit_at w (i - 1 + 1)) bit)
+    subst (λ k. bit_at v k ≡ bit_at w k) here (same_bit (bit_at v (i - 1 + 1)) (bit_at w (i - 1 + 1)) bit)
 
 -- in a shape with a clock for each of the needs
 module _ (needs : Needs) (shape : Shape) (clocks : length shape.clocks ≡ needs.clocks) where

@@ -1,5 +1,5 @@
 -- What the steps of the inference come to.
-use Rattle.std.proofs.Common.{◌≡◌, ℕ, ◌≤◌, ◌∷◌, [], length, List, ℤ, Result, Ok, Err, inl, inr, sym, ap, ◌∙◌, subst, refl, arith}
+use Rattle.std.proofs.Common.{◌≡◌, ℕ, [], length, List, ℤ, Result, Ok, Err, inl, inr, sym, ap, ◌∙◌, subst, refl, arith}
 use Rattle.std.specs.Prelude.{◌⊎◌, IfErr, IfOk, MatchResult, IsErrAnd, Vec}
 use Rattle.std.specs.Global.{Global}
 use Rattle.std.specs.List.{AllByRecursion}
@@ -13,6 +13,7 @@ use Rattle.lucy_word.specs.declared.limit.Limit.{Limit}
 use Rattle.lucy_word.specs.declared.limit.Limit.TheVariants as limit
 use Rattle.lucy_word.proofs.BitsLaws.{period_some}
 use Rattle.lucy_word.proofs.ShortLaws.{shortest_one}
+use Rattle.lucy_word.proofs.OnLaws.{always_shortest}
 use Rattle.lucy_need.specs.Meeting.{assigned, MeetsAll}
 use Rattle.lucy_need.specs.Stored.{HasWords}
 use Rattle.lucy_need.specs.declared.need.Needs.{Needs}
@@ -20,7 +21,7 @@ use Rattle.lucy_check.specs.Passing.{AllWithinLimits, IsFirstRefusal, OrNoMemory
 use Rattle.lucy_check.specs.declared.fault.CheckFault.{CheckFault}
 use Rattle.lucy_check.specs.declared.fault.CheckFault.TheVariants as check
 use Rattle.lucy_check.proofs.CheckLaws.{passes_all, all_within}
-use Rattle.lucy_solve.specs.System.{System, IsEarliest, IsGrounded}
+use Rattle.lucy_solve.specs.System.{DifferenceSystem, IsEarliest, IsGrounded}
 use Rattle.lucy_solve.specs.Outcomes.{IsRefutedBy}
 use Rattle.lucy_shape.specs.declared.shape.Shape.{Shape}
 use Rattle.lucy_shape.specs.declared.shape.RateFault.{RateFault}
@@ -28,7 +29,7 @@ use Rattle.lucy_shape.specs.declared.shape.RateFault.TheVariants as fault
 use Rattle.lucy_shape.specs.Fitting.{IsShapeFor}
 use Rattle.lucy_shape.specs.Inequalities.{inequalities, system_of, SolvesShape}
 use Rattle.lucy_shape.specs.Writing.{AreWordsOf, AreAnswered, AreRefused}
-use Rattle.lucy_shape.proofs.Writings.{words_law}
+use Rattle.lucy_shape.proofs.Writings.{words_law, past}
 use Rattle.lucy_rates.specs.Walks.{IsUnequalWalk}
 use Rattle.lucy_rates.specs.Vectors.{IsShapeOf, HasNoShape}
 use Rattle.lucy_inference.specs.declared.refusal.Uninferred.{Uninferred}
@@ -54,28 +55,15 @@ match_as P R Q S (Ok x) p q f g = f x p
 match_as P R Q S (Err e) p q f g = g e q
 
 -- an error that goes out of a function
-pub leaves : {T : Type 0} (P : Uninferred → Type 0) (e : Uninferred) (r : Result T Uninferred) → IsErrAnd r (λ y. y ≡ e) → P e → IfErr r P
-leaves P e r i h =
-    let p = err_from_is_err_and r i in
-    rw (p.1, p.2) h
-
 pub leaves_match : {T : Type 0} (R : T → Type 0) (P : Uninferred → Type 0) (e : Uninferred) (r : Result T Uninferred) → IsErrAnd r (λ y. y ≡ e) → P e → MatchResult r R P
 leaves_match R P e r i h =
     let p = err_from_is_err_and r i in
     rw (p.1, p.2) h
 
--- (1) is in shortest form
-always_shortest : IsShortest always
-always_shortest = record { period = λ v some same. omega arith; prefix = λ v e same. omega arith }
-
-none_at : (words : List Bits) → length words ≤ 0 → assigned words 0 ≡ always
-none_at [] h = refl
-none_at (w ∷ words) h = absurd (omega arith)
-
 -- and it is the base
 pub base_word : (needs : Needs) (shape : Shape) (words : List Bits) → length shape.clocks ≡ needs.clocks → AreEarliestWords needs shape words → assigned words 0 ≡ always
 base_word needs shape words clocks are = elim (cases_lt 0 (length words)) [
-  | inr none ↦ none_at words none
+  | inr none ↦ past words none
   | inl some ↦
       let is : IsWord (assigned words 0) = are.earliest.is.fits.words 0 (omega (arith, are.count, clocks)) in
       shortest_one (assigned words 0) always (All-from_recursion IsShortest words are.shortest 0 always some) always_shortest (period_some (assigned words 0) is) (omega arith) are.earliest.is.fits.base
@@ -173,7 +161,7 @@ walk_as needs (fault.Limit l) is walk same = absurd (cc)
 walk_as needs fault.OutOfMemory is walk same = absurd (cc)
 
 -- there are no clocks in the shape
-pub no_clocks : (needs : Needs) (shape : Shape) (diffs : System) (cycle : Vec ℕ Global) → AllByRecursion HasWords needs.list → IsShapeFor needs shape → diffs ≡ system_of needs shape → IsGrounded diffs →
+pub no_clocks : (needs : Needs) (shape : Shape) (diffs : DifferenceSystem) (cycle : Vec ℕ Global) → AllByRecursion HasWords needs.list → IsShapeFor needs shape → diffs ≡ system_of needs shape → IsGrounded diffs →
     IsRefutedBy diffs cycle.items → OrNoMemory (RefusesIn needs shape) (Clocks shape diffs cycle)
 no_clocks needs shape diffs cycle words carries same ready refuted =
     let few : AreFewInequalities needs shape = (subst IsGrounded same ready).few in

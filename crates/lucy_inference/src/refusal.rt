@@ -4,6 +4,7 @@ ghost use Rattle.std.specs.Prelude.{◌≡◌};
 use lucy_shape::{RateFault, Shape};
 use lucy_solve::Diffs;
 use lucy_word::Limit;
+use std::alloc::AllocError;
 
 /// Why no clocks are inferred for a node. Needs, and the inequalities of a cycle, count from 0.
 #[derive(Drop)]
@@ -38,12 +39,12 @@ impl From<RateFault> for Uninferred {
     }
 }
 
-impl From<lucy_solve::OutOfMemory> for Uninferred {
+impl From<AllocError> for Uninferred {
     ghost use Rattle.lucy_inference.specs.declared.refusal.Uninferred.TheVariants.{OutOfMemory};
 
     ghost from_gives = { λ _ e. e ≡ OutOfMemory };
 
-    fn from(_: lucy_solve::OutOfMemory) -> Self {
+    fn from(_: AllocError) -> Self {
         Uninferred::OutOfMemory
     }
 }

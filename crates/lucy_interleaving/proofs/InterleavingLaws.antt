@@ -1,19 +1,21 @@
 -- What holds of the states of an accepted program's net.
-use Rattle.std.proofs.Common.{ℕ, ◌+◌, ◌-◌, ◌*◌, ◌<◌, ◌≤◌, ◌≡◌, List, [], ◌∷◌, Option, Some, None, length, map, ap, sym, refl, ◌∙◌, subst, inl, inr, arith}
-use Rattle.std.specs.Prelude.{ℤ, slice_get, slice_index_or}
+use Rattle.std.proofs.Common.{ℕ, ◌+◌, ◌-◌, ◌*◌, ◌<◌, ◌≤◌, ◌≡◌, List, [], Option, Some, None, length, map, ap, sym, refl, ◌∙◌, subst, inl, inr, arith}
+use Rattle.std.specs.Prelude.{ℤ, slice_get}
 use Rattle.std.specs.Option.{option_map}
 use Rattle.std.proofs.lemmas.Bool.{cases_lt}
 use Rattle.std.proofs.lemmas.List.{length-map, get_or_past}
-use Rattle.std.proofs.lemmas.Option.{same_Some, slice_get_within, slice_get-map, get_or_from_slice_get}
+use Rattle.std.proofs.lemmas.Option.{slice_get-map, get_or_from_slice_get}
+use Rattle.lucy_word.proofs.Lists.{only_one}
 use Rattle.lucy_host.specs.declared.kind.HostKind.{HostKind}
 use Rattle.lucy_host.specs.Operators.{Operator, kinds_of}
+use Rattle.lucy_host.proofs.Elements.{get_there}
 use Rattle.lucy_stream.specs.Items.{list_at}
 use Rattle.lucy_stream.specs.Fronts.{IsFront}
 use Rattle.lucy_stream.specs.Iterates.{iterate}
 use Rattle.lucy_stream.specs.Runs.{none_done, first_left, IsPossible, IsRun, IsFinished, IsWhole}
 use Rattle.lucy_stream.specs.States.{State, start, held, events, IsState}
 use Rattle.lucy_stream.specs.Schedules.{events_to}
-use Rattle.lucy_stream.specs.Plans.{Link, no_link, system, machine, kahn_list, IsPlugged, IsOperand}
+use Rattle.lucy_stream.specs.Plans.{system, machine, kahn_list, IsPlugged, IsOperand}
 use Rattle.lucy_stream.proofs.PlanLaws.{IsWired-plan, IsLocal-plan}
 use Rattle.lucy_stream.proofs.StateLaws.{IsState-start, IsState-events, held-most}
 use Rattle.lucy_stream.proofs.StuckLaws.{first_left-some, first_left-none}
@@ -26,11 +28,11 @@ use Rattle.lucy_clock.specs.declared.node_clock.NodeClock.{NodeClock}
 use Rattle.lucy_net.specs.declared.net.Actor.{Actor}
 use Rattle.lucy_net.specs.declared.net.RingSpec.{RingSpec}
 use Rattle.lucy_net.specs.declared.net.Net.{Net}
-use Rattle.lucy_net.specs.Plans.{link_of, giver, taker, plan, net_system}
+use Rattle.lucy_net.specs.Plans.{giver, taker, plan, net_system}
 use Rattle.lucy_net.specs.Causal.{net_places}
 use Rattle.lucy_net.specs.Orders.{IsSound}
 use Rattle.lucy_net.proofs.WhereLaws.{operand_of}
-use Rattle.lucy_net.proofs.NetLaws.{link_is, plugged, to_here, taken_times, ring_cases}
+use Rattle.lucy_net.proofs.NetLaws.{planned, size_here, plugged, to_here, taken_times, ring_cases}
 use Rattle.lucy_net.proofs.BackLaws.{same_places}
 use Rattle.lucy_net.specs.Schedules.{events_at}
 use Rattle.lucy_core.specs.Seen.{machine_on}
@@ -39,12 +41,11 @@ use Rattle.lucy_kahn.specs.Sizes.{all_places}
 use Rattle.lucy_kahn.specs.Numbers.{number}
 use Rattle.lucy_kahn.specs.Kahn.{kahn}
 use Rattle.lucy_kahn.specs.Horizons.{Suffice}
-use Rattle.lucy_kahn.proofs.JoinedLists.{there}
 use Rattle.lucy_kahn.proofs.Numbered.{number_reached}
 use Rattle.lucy_flat.specs.Instances.{index_at}
 use Rattle.lucy_flat.specs.Flat.{ring_size, IsFlat}
 use Rattle.lucy_flat.specs.Clocked.{AreClocked}
-use Rattle.lucy_flat.proofs.FlatLaws.{main_spot, only_one}
+use Rattle.lucy_flat.proofs.FlatLaws.{main_spot}
 use Rattle.lucy_flat.proofs.MeaningLaws.{places_iterate}
 use Rattle.lucy_flat.proofs.RingWords.{buffer_or}
 use Rattle.lucy_flat.proofs.SizeOfNet.{would_be, output_ring_empty}
@@ -58,15 +59,12 @@ use Rattle.lucy_interleaving.specs.Interleavings.{machine_for, IsSafe, IsFedText
 -- what stands at a place of a list
 get_at : (xs : List ℕ) (j r : ℕ) → IsOperand xs j r → slice_get xs j ≡ Some r
 get_at xs j r o =
-    let x = there xs j o.there in
+    let x = get_there xs j o.there in
     x.1 ∙ ap Some (sym (get_or_from_slice_get xs j x.0 0 x.1) ∙ o.is)
 
--- a ring that isn't there has size 0, and every other one its own
+-- a ring that isn't there has size 0
 size_past : (net : Net) (t r : ℕ) → length net.rings ≤ r → (system (plan net t)).size r ≡ 0
-size_past net t r l = ap (λ (k : Link). k.size) (get_or_past (map link_of net.rings) r no_link (omega (arith, l, length-map net.rings link_of)))
-
-pub size_here : (net : Net) (t r : ℕ) (ring : RingSpec) → slice_get net.rings r ≡ Some ring → (system (plan net t)).size r ≡ ring.size
-size_here net t r ring e = ap (λ (k : Link). k.size) (link_is net t r ring e)
+size_past net t r l = get_or_past (map (λ (x : RingSpec). x.size) net.rings) r 0 (omega (arith, l, length-map net.rings (λ (x : RingSpec). x.size)))
 
 -- what a ring holds, where its size is known
 pub holds : (net : Net) (kinds : List HostKind) (inputs : List (List ℤ)) (t r size : ℕ) (s : State) → IsState (machine kinds inputs (plan net t)) s →
@@ -112,7 +110,7 @@ module _ (nodes : List PlacedNode) (clocks : List NodeClock) (proper : AreProper
     buffer_holds : (spot : Spot) (k q r : ℕ) → kind_at nodes spot ≡ Some (Buffer k q) → r < length net.rings → taker net r ≡ number nodes spot →
         length (held s r) ≤ ring_size clocks (index_at nodes spot.path) (Buffer k q) + 1
     buffer_holds spot k q r stands l to =
-        let ring = there net.rings r l in
+        let ring = get_there net.rings r l in
         let size = place_size spot (Buffer k q) r ring.0 stands ring.1 (sym (to_here net r ring.0 ring.1) ∙ to) in
         holds net kinds inputs t r (ring_size clocks (index_at nodes spot.path) (Buffer k q)) s state (size_here net t r ring.0 ring.1 ∙ size)
 
@@ -140,7 +138,7 @@ module _ (nodes : List PlacedNode) (clocks : List NodeClock) (proper : AreProper
       -- an output takes from the actor of its place
       output_from : (i place r : ℕ) → slice_get (results_in (main_of nodes)) i ≡ Some place → r < length net.rings → taker net r ≡ all_places nodes + i → giver net r ≡ number nodes (at [] place)
       output_from i place r e l to =
-          let ring = there net.rings r l in
+          let ring = get_there net.rings r l in
           let out = flat.outputs i place e in
           let o = operand r (all_places nodes + i) ring.0 out.actor ring.1 out.there (sym (to_here net r ring.0 ring.1) ∙ to) in
           sym (only_one (number nodes (at [] place)) o.0 (giver net r)
@@ -166,7 +164,7 @@ AreAcceptedClocked = (ops : List Operator) (o : Options) (text : List ℕ) (a : 
 -- every state is safe
 pub states_safe : AreAcceptedProper → AreAcceptedClocked → (ops : List Operator) (o : Options) (text : List ℕ) (a : Accepted) (inputs : List (List ℤ)) (t : ℕ) (s : State) →
     IsFedText ops o text a inputs t → IsState (machine_for (kinds_of ops) a inputs t) s → IsSafe (kinds_of ops) a inputs t s
-unfolding machine_on net_system
+unfolding machine_on
 states_safe proper_of clocked_of ops o text a inputs t s fed state =
     let nodes : List PlacedNode = a.placed.nodes in
     let clocks : List NodeClock = a.clocks.items in
@@ -176,22 +174,25 @@ states_safe proper_of clocked_of ops o text a inputs t s fed state =
     let flat : IsFlat nodes clocks a.net = fed.accepted.net.flat.flat in
     let order : List ℕ = events_to (events_at a.schedule) t in
     let sound : IsSound a.net (events_at a.schedule) = fed.accepted.schedule.sound in
-    let whole : IsWhole (system (plan a.net t)) order = sound t in
+    let whole : IsWhole (system (plan a.net t)) order = subst (λ sys. IsWhole sys order) (sym (planned a.net t)) (sound t) in
+    let goes_on : (IsFinished (system (plan a.net t)) s.done → ⊥) → (actor : ℕ) × IsPossible (system (plan a.net t)) s.done actor =
+    λ left. next_by nodes clocks proper clocked a.net flat kinds inputs t s state fed.suffice order whole (first_left s.done order) refl left in
     record {
       buffers = λ spot k r is l to. buffer_holds nodes clocks proper clocked a.net flat kinds inputs t s state spot k is.0 r is.1 l to;
       others = λ r none. other_holds nodes clocks proper clocked a.net flat kinds inputs t s state r (λ spot k q stands to. none spot k (q, stands) to);
       places = λ spot r is from. place_gave nodes clocks proper clocked a.net flat kinds inputs t s state fed.suffice order whole spot r is from;
       results = λ i place r e l to. result_took nodes clocks proper clocked a.net flat kinds inputs t s state fed.suffice order whole i place r e l to;
-      goes_on = λ left. next_by nodes clocks proper clocked a.net flat kinds inputs t s state fed.suffice order whole (first_left s.done order) refl left;
+      goes_on = subst (λ sys. (IsFinished sys s.done → ⊥) → (actor : ℕ) × IsPossible sys s.done actor) (planned a.net t) goes_on;
     }
 
 -- and every run leads to one
 pub runs_safe : AreAcceptedProper → AreAcceptedClocked → (ops : List Operator) (o : Options) (text : List ℕ) (a : Accepted) (inputs : List (List ℤ)) (t : ℕ) (picks : List ℕ) →
-    IsFedText ops o text a inputs t → IsRun (machine_for (kinds_of ops) a inputs t).sys none_done picks →
+    IsFedText ops o text a inputs t → IsRun (net_system a.net t) none_done picks →
     IsSafe (kinds_of ops) a inputs t (events (machine_for (kinds_of ops) a inputs t) start picks)
 unfolding machine_on
 runs_safe proper_of clocked_of ops o text a inputs t picks fed run =
     let m = machine (kinds_of ops) inputs (plan a.net t) in
     let plugs : IsPlugged (plan a.net t) = plugged a.net t fed.accepted.net.flat.flat.proper in
     states_safe proper_of clocked_of ops o text a inputs t (events m start picks) fed
-    (IsState-events m start picks (IsWired-plan (plan a.net t) plugs) (IsLocal-plan (kinds_of ops) inputs (plan a.net t) plugs) run (IsState-start m))
+    (IsState-events m start picks (IsWired-plan (plan a.net t) plugs) (IsLocal-plan (kinds_of ops) inputs (plan a.net t) plugs)
+    (subst (λ sys. IsRun sys none_done picks) (sym (planned a.net t)) run) (IsState-start m))

@@ -6,14 +6,14 @@ use Rattle.lucy_host.specs.Operators.{Operator, kinds_of}
 use Rattle.lucy_stream.specs.Fronts.{IsFront}
 use Rattle.lucy_stream.specs.Runs.{IsPossible, IsFinished}
 use Rattle.lucy_stream.specs.States.{State, held}
-use Rattle.lucy_net.specs.Plans.{giver, taker}
+use Rattle.lucy_net.specs.Plans.{giver, taker, net_system}
 use Rattle.lucy_core.specs.Seen.{state_of}
 use Rattle.lucy_runner.specs.Views.{RingView, RunnerView}
 use Rattle.lucy_kahn.specs.Spots.{Spot, IsSpot}
 use Rattle.lucy_kahn.specs.Numbers.{number}
 use Rattle.lucy_program.specs.declared.accepted.Accepted.{Accepted}
 use Rattle.lucy_program.specs.declared.options.Options.{Options}
-use Rattle.lucy_interleaving.specs.Interleavings.{machine_for, IsBuffer, reported_size, stream_for, IsSafe, IsFedText}
+use Rattle.lucy_interleaving.specs.Interleavings.{IsBuffer, reported_size, stream_for, IsSafe, IsFedText}
 use Rattle.lucy_interleaving.specs.Runners.{IsSafeRunner, IsMadeFor, IsSafeIfMade}
 
 -- no buffer takes from the ring
@@ -45,7 +45,7 @@ module _ (kinds : List HostKind) (a : Accepted) (inputs : List (List ℤ)) (hori
       let front : IsFront (v ∷ []) (w ∷ more) = subst (λ xs. IsFront xs (w ∷ more)) gave (subst (IsFront (s.gave r)) stream (safe.places spot r is gives)) in apart front.0
 
   -- it is stuck
-  stuck : (s : State) → (IsFinished (machine_for kinds a inputs horizon).sys s.done → ⊥) → ((actor : ℕ) → IsPossible (machine_for kinds a inputs horizon).sys s.done actor → ⊥) →
+  stuck : (s : State) → (IsFinished (net_system a.net horizon) s.done → ⊥) → ((actor : ℕ) → IsPossible (net_system a.net horizon) s.done actor → ⊥) →
       IsSafe kinds a inputs horizon s → ⊥
   stuck s left none safe = let next = safe.goes_on left in none next.0 next.1
 

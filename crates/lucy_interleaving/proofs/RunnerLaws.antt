@@ -5,6 +5,7 @@ use Rattle.std.proofs.lemmas.List.{take-append-drop}
 use Rattle.std.proofs.lemmas.Option.{slice_get_within}
 use Rattle.lucy_host.specs.declared.kind.HostKind.{HostKind}
 use Rattle.lucy_host.specs.Operators.{Operator, kinds_of}
+use Rattle.lucy_host.proofs.Elements.{get_there}
 use Rattle.lucy_stream.specs.States.{State, held, IsState}
 use Rattle.lucy_stream.specs.Plans.{machine}
 use Rattle.lucy_stream.proofs.FrontLaws.{IsFront-cut}
@@ -15,13 +16,12 @@ use Rattle.lucy_clock.specs.declared.node_clock.NodeClock.{NodeClock}
 use Rattle.lucy_net.specs.declared.net.RingSpec.{RingSpec}
 use Rattle.lucy_net.specs.declared.net.Net.{Net}
 use Rattle.lucy_net.specs.Plans.{plan}
-use Rattle.lucy_net.proofs.NetLaws.{to_here}
+use Rattle.lucy_net.proofs.NetLaws.{size_here, to_here}
 use Rattle.lucy_net.specs.Schedules.{Timetable}
 use Rattle.lucy_core.specs.Seen.{Seen, machine_on, machine_of, state_of, first_seen, after_picks}
 use Rattle.lucy_runner.specs.Views.{RingView, RunnerView, AreRingsIn, inputs_for, first_runner}
 use Rattle.lucy_runner.specs.Rounds.{IsRoundTo}
 use Rattle.lucy_kahn.specs.Spots.{main_of}
-use Rattle.lucy_kahn.proofs.JoinedLists.{there}
 use Rattle.lucy_kahn.specs.Turns.{params_in}
 use Rattle.lucy_flat.specs.Flat.{IsFlat}
 use Rattle.lucy_flat.specs.Clocked.{AreClocked}
@@ -29,7 +29,7 @@ use Rattle.lucy_results.proofs.InputLaws.{inputs_same}
 use Rattle.lucy_program.specs.declared.accepted.Accepted.{Accepted}
 use Rattle.lucy_interleaving.specs.Interleavings.{IsFedText}
 use Rattle.lucy_interleaving.specs.Runners.{HasSafeRings, IsSafeRunner, after_rounds, IsMadeFor, IsSafeIfMade, IsSafeOnItsInputs}
-use Rattle.lucy_interleaving.proofs.InterleavingLaws.{size_here, holds, place_size, plain_size, AreAcceptedProper, AreAcceptedClocked, states_safe}
+use Rattle.lucy_interleaving.proofs.InterleavingLaws.{holds, place_size, plain_size, AreAcceptedProper, AreAcceptedClocked, states_safe}
 
 -- a ring of a runner with what the net says of it
 record IsRingAt (net : Net) (s : State) (r : ℕ) (ring : RingView) : Type 0 where
@@ -41,7 +41,7 @@ record IsRingAt (net : Net) (s : State) (r : ℕ) (ring : RingView) : Type 0 whe
 ring_there : (net : Net) (runner : RunnerView) (r : ℕ) (ring : RingView) → runner.seen.net ≡ net → AreRingsIn runner.seen runner.rings → slice_get runner.rings r ≡ Some ring →
     IsRingAt net (state_of runner.seen) r ring
 ring_there net runner r ring same rings e =
-    let (spec, here) = there runner.seen.net.rings r (omega (arith, rings.count, slice_get_within runner.rings r ring e)) in
+    let (spec, here) = get_there runner.seen.net.rings r (omega (arith, rings.count, slice_get_within runner.rings r ring e)) in
     let is = rings.each r spec ring here e in
     record {
       spec = spec;

@@ -6,7 +6,7 @@ use Rattle.lucy_stream.specs.Fronts.{IsFront}
 use Rattle.lucy_stream.specs.Runs.{none_done, IsPossible, IsRun, IsFinished}
 use Rattle.lucy_stream.specs.States.{Machine, State, start, held, events, IsState}
 use Rattle.lucy_place.specs.declared.entry.PlaceKind.TheVariants.{Buffer}
-use Rattle.lucy_net.specs.Plans.{giver, taker}
+use Rattle.lucy_net.specs.Plans.{giver, taker, net_system}
 use Rattle.lucy_core.specs.Seen.{machine_on}
 use Rattle.lucy_kahn.specs.Spots.{Spot, at, main_of, kind_at, results_in, IsSpot}
 use Rattle.lucy_kahn.specs.Sizes.{all_places}
@@ -47,8 +47,7 @@ pub record IsSafe (kinds : List HostKind) (a : Accepted) (inputs : List (List �
   pub results : (i place r : ℕ) → slice_get (results_in (main_of a.placed.nodes)) i ≡ Some place →
       r < length a.net.rings → taker a.net r ≡ all_places a.placed.nodes + i →
       IsFront (s.took r) (stream_for kinds a inputs horizon (at [] place))
-  pub goes_on : (IsFinished (machine_for kinds a inputs horizon).sys s.done → ⊥) →
-      (actor : ℕ) × IsPossible (machine_for kinds a inputs horizon).sys s.done actor
+  pub goes_on : (IsFinished (net_system a.net horizon) s.done → ⊥) → (actor : ℕ) × IsPossible (net_system a.net horizon) s.done actor
 
 -- inputs that suffice for a horizon of a text that is accepted as this program
 pub record IsFedText (ops : List Operator) (o : Options) (text : List ℕ) (a : Accepted) (inputs : List (List ℤ)) (horizon : ℕ) : Type 0 where
@@ -58,7 +57,7 @@ pub record IsFedText (ops : List Operator) (o : Options) (text : List ℕ) (a : 
 -- every run of the net's events leads to such a state
 abbrev pub RunsAreSafe : Type 0
 RunsAreSafe = (ops : List Operator) (o : Options) (text : List ℕ) (a : Accepted) (inputs : List (List ℤ)) (horizon : ℕ) (picks : List ℕ) →
-    IsFedText ops o text a inputs horizon → IsRun (machine_for (kinds_of ops) a inputs horizon).sys none_done picks →
+    IsFedText ops o text a inputs horizon → IsRun (net_system a.net horizon) none_done picks →
     IsSafe (kinds_of ops) a inputs horizon (events (machine_for (kinds_of ops) a inputs horizon) start picks)
 
 -- and every state of the net is one

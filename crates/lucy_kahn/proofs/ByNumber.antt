@@ -2,12 +2,13 @@
 use Rattle.std.proofs.Common.{ℕ, suc, ◌<◌, ◌≤◌, ◌≡◌, List, [], ◌∷◌, Some, length, map, ap, sym, refl, ◌∙◌, subst, arith}
 use Rattle.std.specs.Prelude.{ℤ, slice_get, option_map}
 use Rattle.std.proofs.lemmas.Option.{same_Some, slice_get_within, slice_get-map}
+use Rattle.lucy_word.proofs.Lists.{all_at}
 use Rattle.lucy_host.specs.declared.kind.HostKind.{HostKind}
 use Rattle.lucy_stream.specs.Items.{list_at}
 use Rattle.lucy_stream.specs.Fronts.{IsFront, AreFronts}
 use Rattle.lucy_stream.specs.Forms.{operands}
 use Rattle.lucy_stream.specs.Iterates.{Place, iterate}
-use Rattle.lucy_stream.specs.Needs.{IsNeed, Item, Needs, IsWalk, IsCausal}
+use Rattle.lucy_stream.specs.Needs.{IsNeed, StreamItem, Needs, IsWalk, IsCausal}
 use Rattle.lucy_stream.specs.Names.{Named, AreIterates, AreNumbered}
 use Rattle.lucy_stream.proofs.NameLaws.{named_iterates}
 use Rattle.lucy_stream.proofs.IterateLaws.{iterate-fronts, iterate-inputs}
@@ -19,14 +20,14 @@ use Rattle.lucy_kahn.specs.Kahn.{kahn}
 use Rattle.lucy_kahn.specs.Items.{SpotItem, DependsOn, IsSpotWalk, IsCausalProgram}
 use Rattle.lucy_kahn.specs.Numbers.{number, numbered_place, numbered_places}
 use Rattle.lucy_kahn.proofs.JoinedLists.{mapped}
-use Rattle.lucy_kahn.proofs.Closed.{closed, all_of, each_of}
+use Rattle.lucy_kahn.proofs.Closed.{closed, all_of}
 use Rattle.lucy_kahn.proofs.Numbered.{place_there, number_own, number_reached, count_places}
 
 -- the instance places of a program, by themselves
 pub named_places : List PlacedNode → Named Spot
 named_places nodes = record { IsThere = IsSpot nodes; form = form_at nodes; reads = reads_at nodes }
 
-item_of : List PlacedNode → SpotItem → Item
+item_of : List PlacedNode → SpotItem → StreamItem
 item_of nodes x = record { place = number nodes x.spot; number = x.number }
 
 module _ (nodes : List PlacedNode) (proper : AreProper nodes) where
@@ -80,20 +81,20 @@ module _ (nodes : List PlacedNode) (proper : AreProper nodes) where
   there_of x (y ∷ walk) end d = d.0.there
 
   -- and back
-  record Depends (s : Spot) (x y : Item) : Type 0 where
+  record Depends (s : Spot) (x y : StreamItem) : Type 0 where
     spot : Spot
     is : IsSpot nodes spot
     place : number nodes spot ≡ y.place
     depends : DependsOn nodes (record { spot = s; number = x.number }) (record { spot = spot; number = y.number })
 
-  depends_of : (s : Spot) (x y : Item) → IsSpot nodes s → number nodes s ≡ x.place → Needs (numbered_places nodes) x y → Depends s x y
+  depends_of : (s : Spot) (x y : StreamItem) → IsSpot nodes s → number nodes s ≡ x.place → Needs (numbered_places nodes) x y → Depends s x y
   depends_of s x y is e need =
       let same : need.place ≡ numbered_place nodes s = same_Some need.place (numbered_place nodes s) (sym need.there ∙ sym (ap (slice_get (numbered_places nodes)) e) ∙ place_there nodes proper s is) in
       let read : slice_get (map (number nodes) (reads_at nodes s)) need.operand ≡ Some y.place = sym (ap (λ (p : Place). slice_get p.reads need.operand) same) ∙ need.reads in
       let to = mapped (number nodes) (slice_get (reads_at nodes s) need.operand) y.place (sym (slice_get-map (number nodes) (reads_at nodes s) need.operand) ∙ read) in
       record {
         spot = to.0;
-        is = each_of (IsSpot nodes) (reads_at nodes s) need.operand to.0 (closed nodes proper s is) to.1;
+        is = all_at (IsSpot nodes) (reads_at nodes s) need.operand to.0 (closed nodes proper s is) to.1;
         place = to.2;
         depends = record {
           there = is;
@@ -105,14 +106,14 @@ module _ (nodes : List PlacedNode) (proper : AreProper nodes) where
         };
       }
 
-  record Walks (s : Spot) (x end : Item) : Type 0 where
+  record Walks (s : Spot) (x end : StreamItem) : Type 0 where
     walk : List SpotItem
     spot : Spot
     is : IsSpot nodes spot
     place : number nodes spot ≡ end.place
     leads : IsSpotWalk nodes (record { spot = s; number = x.number }) walk (record { spot = spot; number = end.number })
 
-  walks_of : (s : Spot) (x : Item) (walk : List Item) (end : Item) → IsSpot nodes s → number nodes s ≡ x.place → IsWalk (numbered_places nodes) x walk end → Walks s x end
+  walks_of : (s : Spot) (x : StreamItem) (walk : List StreamItem) (end : StreamItem) → IsSpot nodes s → number nodes s ≡ x.place → IsWalk (numbered_places nodes) x walk end → Walks s x end
   walks_of s x [] end is e need =
       let d = depends_of s x end is e need in
       record { walk = []; spot = d.spot; is = d.is; place = d.place; leads = d.depends }
@@ -121,7 +122,7 @@ module _ (nodes : List PlacedNode) (proper : AreProper nodes) where
       let w = walks_of d.spot y walk end d.is d.place need.1 in
       record { walk = record { spot = d.spot; number = y.number } ∷ w.walk; spot = w.spot; is = w.is; place = w.place; leads = (d.depends, w.leads) }
 
-  place_of_walk : (x : Item) (walk : List Item) (end : Item) → IsWalk (numbered_places nodes) x walk end → (place : Place) × (slice_get (numbered_places nodes) x.place ≡ Some place)
+  place_of_walk : (x : StreamItem) (walk : List StreamItem) (end : StreamItem) → IsWalk (numbered_places nodes) x walk end → (place : Place) × (slice_get (numbered_places nodes) x.place ≡ Some place)
   place_of_walk x [] end need = (need.place, need.there)
   place_of_walk x (y ∷ walk) end need = (need.0.place, need.0.there)
 
@@ -142,7 +143,7 @@ module _ (nodes : List PlacedNode) (proper : AreProper nodes) where
       y.number ≤ length (kahn kinds inputs nodes n y.spot)
   unfolding item_of
   needs_there kinds inputs n x y low d l =
-      let y_is : IsSpot nodes y.spot = each_of (IsSpot nodes) (reads_at nodes x.spot) d.operand y.spot (closed nodes proper x.spot d.there) d.reads in
+      let y_is : IsSpot nodes y.spot = all_at (IsSpot nodes) (reads_at nodes x.spot) d.operand y.spot (closed nodes proper x.spot d.there) d.reads in
       let mine : x.number ≤ length (list_at (iterate kinds inputs (numbered_places nodes) (suc n)) (number nodes x.spot)) =
       subst (λ xs. x.number ≤ length xs) (sym (by_number kinds inputs (suc n) x.spot d.there)) l in
       subst (λ xs. y.number ≤ length xs) (by_number kinds inputs n y.spot y_is)

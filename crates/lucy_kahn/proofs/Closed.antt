@@ -102,8 +102,3 @@ pub all_of : {A : Type 0} (P : A → Type 0) (xs : List A) → AllByRecursion P 
 all_of P [] all k d l = absurd (omega arith)
 all_of P (x ∷ xs) all zero d l = all.0
 all_of P (x ∷ xs) all (suc k) d l = all_of P xs all.1 k d (omega (arith, l))
-
-pub each_of : {A : Type 0} (P : A → Type 0) (xs : List A) (k : ℕ) (x : A) → AllByRecursion P xs → slice_get xs k ≡ Some x → P x
-each_of P [] k x all e = absurd (cc e)
-each_of P (y ∷ xs) zero x all e = subst P (same_Some y x e) all.0
-each_of P (y ∷ xs) (suc k) x all e = each_of P xs k x all.1 e

@@ -1,21 +1,21 @@
 -- Instances, as they are made.
-use Rattle.std.proofs.Common.{ℕ, zero, suc, ◌+◌, ◌-◌, ◌<◌, ◌≤◌, ◌≡◌, inl, inr, cond, List, [], ◌∷◌, ◌++◌, Option, Some, None, length, drop, take, get_or, ap, sym, refl, ◌∙◌, subst, arith, length-append}
+use Rattle.std.proofs.Common.{ℕ, zero, suc, ◌+◌, ◌-◌, ◌<◌, ◌≡◌, inl, inr, cond, List, [], ◌∷◌, ◌++◌, Option, Some, None, length, drop, take, get_or, ap, sym, refl, ◌∙◌, subst, arith, length-append}
 use Rattle.std.specs.Prelude.{slice_get, sum_by}
 use Rattle.std.proofs.lemmas.Bool.{cases_lt, lt-ltb, le-ltb}
-use Rattle.std.proofs.lemmas.List.{take_more, length-take-le}
+use Rattle.std.proofs.lemmas.List.{take_more, length-take-le, drop-append-le}
 use Rattle.std.proofs.lemmas.List.Sums.{sum_by-cons, sum_by-append}
 use Rattle.std.proofs.lemmas.Option.{same_Some, slice_get_within, get_or_from_slice_get}
+use Rattle.lucy_word.proofs.Lists.{drop_next}
+use Rattle.lucy_host.proofs.Elements.{get_there, get_left, get_right}
 use Rattle.lucy_place.specs.declared.placed.PlacedNode.{PlacedNode}
 use Rattle.lucy_place.specs.declared.entry.CallSite.{CallSite}
 use Rattle.lucy_place.specs.Proper.{AreProper}
 use Rattle.lucy_kahn.specs.Spots.{node_at, site_in}
 use Rattle.lucy_kahn.proofs.Parts.{callee_in}
 use Rattle.lucy_kahn.specs.Sizes.{total_of}
-use Rattle.lucy_kahn.proofs.JoinedLists.{there, get_left, get_right}
 use Rattle.lucy_kahn.proofs.Tables.{calls_below, total_law}
 use Rattle.lucy_kahn.proofs.Paths.{low_of}
 use Rattle.lucy_kahn.proofs.Closed.{get_take, call_of}
-use Rattle.lucy_kahn.proofs.ListSteps.{next_of}
 use Rattle.lucy_kahn.specs.declared.instances.Caller.{Caller}
 use Rattle.lucy_kahn.specs.declared.instances.Instance.{Instance}
 use Rattle.lucy_kahn.specs.Instances.{made, IsCalledBy, IsInstance, AreMade, AreInstances, AreAll, paths_with}
@@ -70,11 +70,6 @@ new_path : (paths : ℕ → List ℕ) (first caller j : ℕ) → paths_with path
 new_path paths first caller j =
     let z : first + j - first ≡ j = omega arith in
     ap (λ b. cond b (paths (first + j)) (suc (first + j - first) ∷ paths caller)) (le-ltb (first + j) first (omega arith)) ∙ ap (λ k. suc k ∷ paths caller) z
-
-drop_left : {A : Type 0} (xs ys : List A) (i : ℕ) → i ≤ length xs → drop i (xs ++ ys) ≡ drop i xs ++ ys
-drop_left xs ys zero l = refl
-drop_left [] ys (suc i) l = absurd (omega arith)
-drop_left (x ∷ xs) ys (suc i) l = drop_left xs ys i (omega (arith, l))
 
 -- an instance of main by itself
 pub first_made : (nodes : List PlacedNode) (x : Instance) → 0 < length nodes → x ≡ record { node = length nodes - 1; caller = None } → AreInstances nodes (x ∷ []) [] (λ i. [])
@@ -209,8 +204,8 @@ pub left_falls : (nodes : List PlacedNode) (list : List Instance) (i : ℕ) (x :
 left_falls nodes list i x n proper e found =
     let l : i < length list = slice_get_within list i x e in
     let rest : List Instance = drop (i + 1) list in
-    let here : drop i list ≡ x ∷ rest = next_of list i x l (sym (get_or_from_slice_get list i x x e)) in
-    let there : drop (i + 1) (list ++ made i 1 n.calls) ≡ rest ++ made i 1 n.calls = drop_left list (made i 1 n.calls) (i + 1) (omega (arith, l)) in
+    let here : drop i list ≡ x ∷ rest = drop_next list i x l (sym (get_or_from_slice_get list i x x e)) in
+    let there : drop (i + 1) (list ++ made i 1 n.calls) ≡ rest ++ made i 1 n.calls = drop-append-le (i + 1) list (made i 1 n.calls) (omega (arith, l)) in
     let a : left_from nodes list i ≡ count_of nodes x + sum_by (count_of nodes) rest = ap (sum_by (count_of nodes)) here ∙ sum_by-cons (count_of nodes) x rest in
     let b : left_from nodes (list ++ made i 1 n.calls) (i + 1) ≡ sum_by (count_of nodes) rest + sum_by (count_of nodes) (made i 1 n.calls) = ap (sum_by (count_of nodes)) there ∙ sum_by-append (count_of nodes) rest (made i 1 n.calls) in
     let c : count_of nodes x ≡ 1 + sum_by (λ site. total_of one_each nodes site.node) n.calls = total_law one_each nodes x.node n found (calls_below nodes x.node n (proper x.node n found)) in
@@ -225,7 +220,7 @@ path_found nodes list inner are (call ∷ path) n e =
     let of = call_of nodes path call n e in
     let at = path_found nodes list inner are path of.caller of.outer in
     let l : at.0 < length inner = omega (arith, at.1, are.all) in
-    let first = there inner at.0 l in
+    let first = get_there inner at.0 l in
     let low = low_of of.caller.calls call of.to.site of.to.stands in
     let r = are.instances.calls at.0 first.0 first.1 of.caller of.to.site (call - 1) (ap (node_at nodes) at.2 ∙ of.outer) low.1 in
     let z : suc (call - 1) ≡ call = omega (arith, low.0) in

@@ -11,6 +11,6 @@ mod Rows
 mod ListSteps
 mod InstanceLaws
 mod TurnLaws
-mod OwnLaws
+pub mod OwnLaws
 mod RunLaws
 mod ReadLaws

@@ -26,9 +26,6 @@ longer made rest whole item e = omega (arith, ap (λ (xs : List ℤ). length xs)
 pub moved_on : (made rest whole : List ℤ) (item : ℤ) → made ++ (item ∷ rest) ≡ whole → (made ++ item ∷ []) ++ rest ≡ whole
 moved_on made rest whole item e = append_assoc made (item ∷ []) rest ∙ e
 
-pub next_of : {A : Type 0} (xs : List A) (i : ℕ) (x : A) → i < length xs → x ≡ get_or xs i x → drop i xs ≡ x ∷ drop (i + 1) xs
-next_of xs i x h e = drop-cons xs i x h ∙ ap (λ y. y ∷ drop (suc i) xs) (sym e) ∙ ap (λ n. x ∷ drop n xs) (sym (add-one i))
-
 -- a sampling at an item
 pub kept_one : (word : Bits) (list : List ℤ) (i : ℕ) (item : ℤ) → drop i list ≡ item ∷ drop (i + 1) list → bit_at word (i + 1) ≡ true → kept_past word i (drop i list) ≡ item ∷ kept_past word (i + 1) (drop (i + 1) list)
 kept_one word list i item e b = ap (kept_past word i) e ∙ ap (λ c. cond c (item ∷ kept_past word (i + 1) (drop (i + 1) list)) (kept_past word (i + 1) (drop (i + 1) list))) b

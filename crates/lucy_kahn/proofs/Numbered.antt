@@ -3,15 +3,15 @@ use Rattle.std.proofs.Common.{ℕ, suc, ◌-◌, ◌<◌, ◌≡◌, List, [], �
 use Rattle.std.specs.Prelude.{slice_get, option_map}
 use Rattle.std.proofs.lemmas.List.{length-map}
 use Rattle.std.proofs.lemmas.Option.{same_Some, slice_get_within, slice_get-map}
+use Rattle.lucy_host.proofs.Elements.{get_there}
 use Rattle.lucy_place.specs.declared.placed.PlacedNode.{PlacedNode}
 use Rattle.lucy_place.specs.Proper.{AreProper}
 use Rattle.lucy_kahn.specs.Spots.{Spot, main_of, node_from, node_at, IsSpot}
 use Rattle.lucy_kahn.proofs.Parts.{kind_in}
 use Rattle.lucy_kahn.specs.Sizes.{all_places}
-use Rattle.lucy_kahn.specs.Numbers.{number_from, number, spots, numbered_place, numbered_places}
-use Rattle.lucy_kahn.proofs.JoinedLists.{there}
+use Rattle.lucy_kahn.specs.Numbers.{number, spots, numbered_place, numbered_places}
 use Rattle.lucy_kahn.proofs.Paths.{none_from}
-use Rattle.lucy_kahn.proofs.SpotLists.{IsSpotFrom, length_spots, listed}
+use Rattle.lucy_kahn.proofs.SpotLists.{number_from, IsSpotFrom, length_spots, listed}
 
 -- a program with an instance place has a main
 main_there : (nodes : List PlacedNode) (spot : Spot) → IsSpot nodes spot → (n : PlacedNode) × (main_of nodes ≡ Some n)
@@ -39,7 +39,7 @@ module _ (nodes : List PlacedNode) (proper : AreProper nodes) where
       from_nodes [] e = ap (λ (xs : List PlacedNode). length (spots xs)) e ∙ sym (ap all_places e)
       from_nodes (x ∷ xs) e =
           let some : length nodes ≡ length (x ∷ xs) = ap (λ (ys : List PlacedNode). length ys) e in
-          let main = there nodes (length nodes - 1) (omega arith) in
+          let main = get_there nodes (length nodes - 1) (omega arith) in
           length_spots nodes proper (suc (length nodes)) (length nodes - 1) main.0 (omega arith) main.1
 
   pub number_below : (spot : Spot) → IsSpot nodes spot → number nodes spot < all_places nodes
@@ -50,7 +50,7 @@ module _ (nodes : List PlacedNode) (proper : AreProper nodes) where
 
   pub number_reached : (k : ℕ) → k < all_places nodes → (spot : Spot) × IsSpot nodes spot × (number nodes spot ≡ k)
   number_reached k l =
-      let spot = there (spots nodes) k (omega (arith, l, count_spots)) in
+      let spot = get_there (spots nodes) k (omega (arith, l, count_spots)) in
       let main = main_for (main_of nodes) refl in
       let r = (listed nodes proper (length nodes - 1) main.0 main.1).alone k spot.0 spot.1 in
       (spot.0, (r.0.0, ap (λ o. kind_in (node_from nodes o spot.0.path) spot.0.place) main.1 ∙ r.0.1), ap (λ o. number_from nodes o spot.0) main.1 ∙ r.1)
@@ -61,7 +61,7 @@ module _ (nodes : List PlacedNode) (proper : AreProper nodes) where
           never : (xs : List PlacedNode) → k < all_places xs → main_of xs ≡ None → ⊥
           never [] h f = omega arith
           never (x ∷ xs) h f =
-              let m = there (x ∷ xs) (length (x ∷ xs) - 1) (omega arith) in
+              let m = get_there (x ∷ xs) (length (x ∷ xs) - 1) (omega arith) in
               let bad : None ≡ Some m.0 = sym f ∙ m.1 in
               cc bad
       main_for (Some n) e = (n, e)

@@ -1,8 +1,8 @@
 -- The lists of places that read in their own instance.
-use Rattle.std.proofs.Common.{ℕ, zero, suc, ◌+◌, ◌-◌, ◌<◌, ◌≤◌, ◌≡◌, List, [], ◌∷◌, ◌++◌, Some, length, map, get_or, set, replicate, take, ap, sym, refl, ◌∙◌, subst, arith}
+use Rattle.std.proofs.Common.{ℕ, zero, suc, ◌-◌, ◌≤◌, ◌≡◌, List, [], ◌∷◌, ◌++◌, Some, length, map, set, replicate, ap, sym, refl, ◌∙◌, arith}
 use Rattle.std.specs.Prelude.{ℤ, slice_get, slice_index_or}
 use Rattle.std.specs.List.{AllByRecursion, range_with_len}
-use Rattle.std.proofs.lemmas.Option.{same_Some, get_or_from_slice_get}
+use Rattle.std.proofs.lemmas.Option.{get_or_from_slice_get}
 use Rattle.lucy_host.specs.Arity.{arity}
 use Rattle.lucy_host.specs.OpValue.{op_value}
 use Rattle.lucy_host.specs.declared.op.Op.{Op}
@@ -17,12 +17,6 @@ use Rattle.lucy_kahn.specs.Turns.{own_at, AreShort}
 -- the list of a place that is there
 pub at_is : (own : List (List ℤ)) (place : ℕ) (list : List ℤ) → slice_get own (place - 1) ≡ Some list → list ≡ own_at own place
 at_is own place list e = sym (get_or_from_slice_get own (place - 1) list [] e)
-
--- what holds of all holds of one
-pub all_at : {A : Type 0} (P : A → Type 0) (xs : List A) (i : ℕ) (x : A) → AllByRecursion P xs → slice_get xs i ≡ Some x → P x
-all_at P [] i x all e = absurd (cc e)
-all_at P (y ∷ xs) zero x all e = subst P (same_Some y x e) all.0
-all_at P (y ∷ xs) (suc i) x all e = all_at P xs i x all.1 e
 
 -- an operator looks at the lists of its operands alone
 pointwise_law : (kinds : List HostKind) (n : ℕ) (o : Op) (lists : List (List ℤ)) →
@@ -57,22 +51,17 @@ pub last_is : (lists : List (List ℤ)) (list : List ℤ) → slice_index_or (li
 last_is [] list = refl
 last_is (x ∷ lists) list = last_is lists list
 
+-- a list that is written over the last one
 pub last_set : (lists : List (List ℤ)) (list new : List ℤ) → set (lists ++ list ∷ []) (length lists) new ≡ lists ++ new ∷ []
 last_set [] list new = refl
 last_set (x ∷ lists) list new = ap (λ xs. x ∷ xs) (last_set lists list new)
 
+-- one item more at the end of the last list
 pub grown_last : (lists : List (List ℤ)) (list : List ℤ) (i : ℕ) (item : ℤ) → i ≡ length lists →
     set (lists ++ list ∷ []) i (slice_index_or (lists ++ list ∷ []) i [] ++ item ∷ []) ≡ lists ++ (list ++ item ∷ []) ∷ []
 grown_last lists list i item e =
     ap (λ k. set (lists ++ list ∷ []) k (slice_index_or (lists ++ list ∷ []) k [] ++ item ∷ [])) e
     ∙ ap (λ xs. set (lists ++ list ∷ []) (length lists) (xs ++ item ∷ [])) (last_is lists list) ∙ last_set lists list (list ++ item ∷ [])
-
-pub mapped_take : {A B : Type 0} (f : A → B) (xs : List A) (i : ℕ) (d : A) → i < length xs → map f (take (i + 1) xs) ≡ map f (take i xs) ++ f (get_or xs i d) ∷ []
-mapped_take f [] i d l = absurd (omega arith)
-mapped_take f (x ∷ xs) zero d l = refl
-mapped_take f (x ∷ xs) (suc i) d l =
-    let z : suc i + 1 ≡ suc (i + 1) = omega arith in
-    ap (λ k. map f (take k (x ∷ xs))) z ∙ ap (λ ys. f x ∷ ys) (mapped_take f xs i d (omega (arith, l)))
 
 pub none_lists : (count a : ℕ) → replicate {A = List ℤ} count [] ≡ map (λ p. []) (range_with_len a count)
 none_lists zero a = refl

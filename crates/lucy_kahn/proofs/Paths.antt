@@ -1,6 +1,7 @@
 -- Paths of calls, from main or from another node.
 use Rattle.std.proofs.Common.{ℕ, suc, zero, ◌+◌, ◌-◌, ◌≤◌, ◌≡◌, ◌⊎◌, inl, inr, List, [], ◌∷◌, ◌++◌, Option, Some, None, length, take, ap, refl, ◌∙◌, arith}
 use Rattle.std.specs.Prelude.{slice_get}
+use Rattle.lucy_host.proofs.Elements.{get_there}
 use Rattle.lucy_place.specs.declared.placed.PlacedNode.{PlacedNode}
 use Rattle.lucy_place.specs.declared.entry.PlaceEntry.{PlaceEntry}
 use Rattle.lucy_place.specs.declared.entry.CallSite.{CallSite}
@@ -9,7 +10,6 @@ use Rattle.lucy_place.specs.Proper.{at_one, IsPlace, IsProperNode, AreProper}
 use Rattle.lucy_kahn.specs.Spots.{site_in, node_from, node_at}
 use Rattle.lucy_kahn.proofs.Parts.{callee_in, kind_of, kind_in}
 use Rattle.lucy_kahn.specs.Numbers.{call_offset, begin_from}
-use Rattle.lucy_kahn.proofs.JoinedLists.{there}
 
 -- an element of a list that counts from 1
 pub low_of : {A : Type 0} (xs : List A) (p : ℕ) (x : A) → at_one xs p ≡ Some x → (1 ≤ p) × (slice_get xs (p - 1) ≡ Some x)
@@ -78,7 +78,7 @@ pub kind_there : (n : PlacedNode) (place : ℕ) → IsPlace n place → (kind : 
 kind_there n zero is = absurd (let l : 1 ≤ 0 = is.0 in omega arith)
 kind_there n (suc i) is =
     let high : suc i ≤ length n.places = is.1 in
-    let entry = there n.places i (omega arith) in
+    let entry = get_there n.places i (omega arith) in
     (entry.0.kind, ap kind_of entry.1)
 
 -- the node that a path leads to is a node of the program

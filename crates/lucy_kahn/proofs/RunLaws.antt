@@ -1,7 +1,7 @@
 -- Turns, one after another.
 use Rattle.std.proofs.Common.{ℕ, suc, ◌+◌, ◌-◌, ◌<◌, ◌≤◌, ◌≡◌, ◌⊎◌, inl, inr, List, [], ◌∷◌, ◌++◌, Some, length, map, get_or, ap, sym, refl, ◌∙◌, subst, arith}
 use Rattle.std.specs.Prelude.{ℤ, slice_get, Result, Err}
-use Rattle.std.specs.Result.{IfErr, IsErrAnd}
+use Rattle.std.specs.Result.{IsErrAnd}
 use Rattle.std.specs.List.{range_with_len}
 use Rattle.std.proofs.lemmas.Bool.{cases_lt}
 use Rattle.std.proofs.lemmas.List.FromFn.{map-range_with_len_more}
@@ -23,11 +23,6 @@ use Rattle.lucy_kahn.specs.Turns.{own_at, lists_in, IsIterate, params_in, IsTurn
 use Rattle.lucy_kahn.proofs.TurnLaws.{lists_are, own_lists, none_long}
 
 -- the exit of a `?`
-pub err_exit : {T : Type 0} (r : Result T KahnError) (e : KahnError) (P : KahnError → Type 0) → IsErrAnd r (λ y. y ≡ e) → P e → IfErr r P
-err_exit r e P i h =
-    let p = err_from_is_err_and r i in
-    subst (λ x. IfErr x P) (sym p.1) (subst P (sym p.2) h)
-
 pub err_known : {T P : Type 0} (r : Result T KahnError) (e : KahnError) → IsErrAnd r (λ y. y ≡ e) → (e ≡ OutOfMemory) ⊎ ((e ≡ Limit limit.KahnItems) × P) → (r ≡ Err OutOfMemory) ⊎ (r ≡ Err (Limit limit.KahnItems))
 err_known r e i (inl none) = let p = err_from_is_err_and r i in inl (p.1 ∙ ap Err (p.2 ∙ none))
 err_known r e i (inr full) = let p = err_from_is_err_and r i in inr (p.1 ∙ ap Err (p.2 ∙ full.0))

@@ -7,6 +7,7 @@ use Rattle.std.proofs.lemmas.List.{length-map, length-append}
 use Rattle.std.proofs.lemmas.List.FromFn.{length-map-range_with_len}
 use Rattle.std.proofs.lemmas.List.Sums.{sum_by-cons}
 use Rattle.std.proofs.lemmas.Option.{same_Some, slice_get_within, slice_get-map}
+use Rattle.lucy_host.proofs.Elements.{get_there, get_left, get_right}
 use Rattle.lucy_place.specs.declared.placed.PlacedNode.{PlacedNode}
 use Rattle.lucy_place.specs.declared.entry.CallSite.{CallSite}
 use Rattle.lucy_place.specs.declared.entry.PlaceKind.{PlaceKind}
@@ -15,10 +16,14 @@ use Rattle.lucy_kahn.specs.Spots.{Spot, at, site_in, node_from}
 use Rattle.lucy_kahn.proofs.Parts.{callee_in, kind_in}
 use Rattle.lucy_kahn.specs.Below.{Below}
 use Rattle.lucy_kahn.specs.Sizes.{own_places, size_of}
-use Rattle.lucy_kahn.specs.Numbers.{call_offset, begin_from, number_from, within_call, inner_spots, spots_in, spots_of}
-use Rattle.lucy_kahn.proofs.JoinedLists.{there, get_left, get_right, get_range, mapped}
+use Rattle.lucy_kahn.specs.Numbers.{call_offset, begin_from, within_call, inner_spots, spots_in, spots_of}
+use Rattle.lucy_kahn.proofs.JoinedLists.{get_range, mapped}
 use Rattle.lucy_kahn.proofs.Tables.{IsLocal, calls_below, below_take, sum_same, entry_law, total_law}
 use Rattle.lucy_kahn.proofs.Paths.{low_of, none_from, node_inside, begin_inside, begins_with, called, is_at, kind_there}
+
+-- the number of an instance place, counted from the begin of an instance of the node at which its path begins
+abbrev pub number_from : List PlacedNode → Option PlacedNode → Spot → ℕ
+number_from nodes begin spot = begin_from nodes begin spot.path + (spot.place - 1)
 
 inner_same : (f g : ℕ → List Spot) (k call : ℕ) (sites : List CallSite) → ((j : ℕ) → j < k → f j ≡ g j) → Below k sites → inner_spots f call sites ≡ inner_spots g call sites
 inner_same f g k call [] h all = refl
@@ -133,7 +138,7 @@ module _ (nodes : List PlacedNode) (proper : AreProper nodes) where
       let inner : List Spot = inner_spots (spots_of nodes) 1 n.calls in
       let calls : sum_by (count_in (spots_of nodes)) n.calls ≡ sum_by (λ site. size_of nodes site.node) n.calls =
       sum_same (count_in (spots_of nodes)) (λ site. size_of nodes site.node) i n.calls
-      (λ s h. let m = there nodes s.node (omega arith) in length_spots most s.node m.0 (omega arith) m.1) (below i n e) in
+      (λ s h. let m = get_there nodes s.node (omega arith) in length_spots most s.node m.0 (omega arith) m.1) (below i n e) in
       omega (arith, ap (λ (xs : List Spot). length xs) (spots_law i n e), length-append own inner, length-map-range_with_len (at []) 1 (length n.places), length_inner (spots_of nodes) 1 n.calls, size_law i n e)
 
   -- where the part of a call begins in a node's list
@@ -143,7 +148,7 @@ module _ (nodes : List PlacedNode) (proper : AreProper nodes) where
       let within : i < length nodes = slice_get_within nodes i n e in
       let calls : sum_by (count_in (spots_of nodes)) (take j n.calls) ≡ sum_by (λ site. size_of nodes site.node) (take j n.calls) =
       sum_same (count_in (spots_of nodes)) (λ site. size_of nodes site.node) i (take j n.calls)
-      (λ s h. let m = there nodes s.node (omega arith) in length_spots (suc s.node) s.node m.0 (omega arith) m.1) (below_take i n.calls j (below i n e)) in
+      (λ s h. let m = get_there nodes s.node (omega arith) in length_spots (suc s.node) s.node m.0 (omega arith) m.1) (below_take i n.calls j (below i n e)) in
       let z : suc j - 1 ≡ j = omega arith in
       let to : sum_by (λ site. size_of nodes site.node) (take j n.calls) ≡ sum_by (λ site. size_of nodes site.node) (take (suc j - 1) n.calls) = ap (λ t. sum_by (λ site. size_of nodes site.node) (take t n.calls)) (sym z) in
       omega (arith, length-map-range_with_len (at []) 1 (length n.places))
@@ -217,7 +222,7 @@ module _ (nodes : List PlacedNode) (proper : AreProper nodes) where
       let own : List Spot = map (at []) (range_with_len 1 (length n.places)) in
       let is_below : r.site.node < i = below_at n.calls r.index r.site r.stands (below i n e) in
       let within : i < length nodes = slice_get_within nodes i n e in
-      let m = there nodes r.site.node (omega arith) in
+      let m = get_there nodes r.site.node (omega arith) in
       let to = (above r.site.node m.0 is_below m.1).alone r.place r.inside r.found in
       let call : ℕ = 1 + r.index in
       let c : call ≡ suc r.index = omega arith in

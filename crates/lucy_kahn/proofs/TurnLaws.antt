@@ -3,7 +3,9 @@ use Rattle.std.proofs.Common.{ℕ, suc, ◌+◌, ◌-◌, ◌<◌, ◌≤◌, �
 use Rattle.std.specs.Prelude.{ℤ, slice_get, slice_index_or}
 use Rattle.std.proofs.lemmas.List.FromFn.{get_or-map-range_with_len, length-map-range_with_len}
 use Rattle.std.proofs.lemmas.Option.{same_Some, slice_get_within, get_or_from_slice_get}
+use Rattle.lucy_word.proofs.Lists.{all_at}
 use Rattle.lucy_host.specs.declared.kind.HostKind.{HostKind}
+use Rattle.lucy_host.proofs.Elements.{get_there}
 use Rattle.lucy_stream.specs.Items.{list_at}
 use Rattle.lucy_stream.specs.Lists.{form_list}
 use Rattle.lucy_place.specs.declared.placed.PlacedNode.{PlacedNode}
@@ -15,9 +17,9 @@ use Rattle.lucy_place.specs.Reads.{operands_of}
 use Rattle.lucy_kahn.specs.Spots.{Spot, at, node_at, main_of, kind_at, IsSpot, spot_form, spot_reads, site_in, argument, result_place}
 use Rattle.lucy_kahn.proofs.Parts.{kind_of, kind_in, form_if, reads_if, callee_in}
 use Rattle.lucy_kahn.specs.Kahn.{kahn}
-use Rattle.lucy_kahn.proofs.JoinedLists.{there, get_range}
+use Rattle.lucy_kahn.proofs.JoinedLists.{get_range}
 use Rattle.lucy_kahn.proofs.Paths.{low_of, is_at, path_node}
-use Rattle.lucy_kahn.proofs.Closed.{get_take, place_of, call_of, each_of}
+use Rattle.lucy_kahn.proofs.Closed.{get_take, place_of, call_of}
 use Rattle.lucy_kahn.specs.declared.instances.Caller.{Caller}
 use Rattle.lucy_kahn.specs.declared.instances.Instance.{Instance}
 use Rattle.lucy_kahn.specs.Outcomes.{most_items}
@@ -48,7 +50,7 @@ module _ (kinds : List HostKind) (inputs : List (List ℤ)) (nodes : List Placed
   lists_from i lists l e = same_Some lists (lists_in kinds inputs nodes n (paths i)) (sym e ∙ lists_are i l)
 
   pub short_at : (i : ℕ) (lists : List (List ℤ)) → slice_get before i ≡ Some lists → AreShort lists
-  short_at i lists e = each_of AreShort before i lists turn.iterate.short e
+  short_at i lists e = all_at AreShort before i lists turn.iterate.short e
 
   -- the node of an instance
   pub node_of : (i : ℕ) (x : Instance) (nd : PlacedNode) → slice_get list i ≡ Some x → slice_get nodes x.node ≡ Some nd → node_at nodes (paths i) ≡ Some nd
@@ -124,8 +126,8 @@ module _ (kinds : List HostKind) (inputs : List (List ℤ)) (nodes : List Placed
       let l : spot.place - 1 < length a.node.places = slice_get_within a.node.places (spot.place - 1) a.entry low.1 in
       let p : IsPlace a.node spot.place = (low.0, omega (arith, low.0)) in
       let here : own_at lists spot.place ≡ kahn kinds inputs nodes n (at (paths i) spot.place) = list_is i a.node lists spot.place node refl p in
-      let got = there lists (spot.place - 1) (omega (arith, count_of_lists i a.node lists node refl)) in
-      let short : length got.0 ≤ most_items = each_of (λ xs. length xs ≤ most_items) lists (spot.place - 1) got.0 (short_at i lists (lists_are i of.1)) got.1 in
+      let got = get_there lists (spot.place - 1) (omega (arith, count_of_lists i a.node lists node refl)) in
+      let short : length got.0 ≤ most_items = all_at (λ xs. length xs ≤ most_items) lists (spot.place - 1) got.0 (short_at i lists (lists_are i of.1)) got.1 in
       let same : got.0 ≡ kahn kinds inputs nodes n spot = sym (get_or_from_slice_get lists (spot.place - 1) got.0 [] got.1) ∙ here ∙ ap (λ q. kahn kinds inputs nodes n (at q spot.place)) of.2 in
       subst (λ xs. length xs ≤ most_items) same short
 
@@ -134,7 +136,7 @@ module _ (kinds : List HostKind) (inputs : List (List ℤ)) (nodes : List Placed
       (1 ≤ place) × (place - 1 < length inputs) × (kahn kinds inputs nodes (suc n) (at (paths i) place) ≡ list_at inputs (place - 1))
   main_param i place x e none stands =
       let h = turn.instances.each i x e in
-      let nd = there nodes x.node h.within in
+      let nd = get_there nodes x.node h.within in
       let s = stands x nd.0 e nd.1 in
       let k : place ≤ nd.0.params = proper_kind x.node nd.0 place Param nd.1 s in
       let low = low_of nd.0.places place s.0 s.1 in
@@ -161,7 +163,7 @@ module _ (kinds : List HostKind) (inputs : List (List ℤ)) (nodes : List Placed
   pub call_param : (i place : ℕ) (x : Instance) (by : Caller) → slice_get list i ≡ Some x → x.caller ≡ Some by → StandsIn nodes list i place Param → HasArgument i place by
   call_param i place x by e called stands =
       let h = turn.instances.each i x e in
-      let nd = there nodes x.node h.within in
+      let nd = get_there nodes x.node h.within in
       let s = stands x nd.0 e nd.1 in
       let k : place ≤ nd.0.params = proper_kind x.node nd.0 place Param nd.1 s in
       let low = low_of nd.0.places place s.0 s.1 in
@@ -214,7 +216,7 @@ module _ (kinds : List HostKind) (inputs : List (List ℤ)) (nodes : List Placed
   pub call_result : (i place call number first : ℕ) (x : Instance) → slice_get list i ≡ Some x → slice_get inner i ≡ Some first → StandsIn nodes list i place (Result call number) → HasResult i place call number first
   call_result i place call number first x e made_from stands =
       let h = turn.instances.each i x e in
-      let nd = there nodes x.node h.within in
+      let nd = get_there nodes x.node h.within in
       let s = stands x nd.0 e nd.1 in
       let k = proper_kind x.node nd.0 place (Result call number) nd.1 s in
       let site : CallSite = k.1 in

@@ -18,13 +18,9 @@ abbrev pub begin_from : List PlacedNode → Option PlacedNode → List ℕ → �
 begin_from nodes begin [] = 0
 begin_from nodes begin (call ∷ path) = begin_from nodes begin path + call_offset nodes (node_from nodes begin path) call
 
--- the number of an instance place, counted from the begin of an instance of the node at which its path begins
-abbrev pub number_from : List PlacedNode → Option PlacedNode → Spot → ℕ
-number_from nodes begin spot = begin_from nodes begin spot.path + (spot.place - 1)
-
 -- the number of an instance place
 abbrev pub number : List PlacedNode → Spot → ℕ
-number nodes spot = number_from nodes (main_of nodes) spot
+number nodes spot = begin_from nodes (main_of nodes) spot.path + (spot.place - 1)
 
 -- the instance place that is this one of the instance which a call of main makes
 abbrev pub within_call : ℕ → Spot → Spot

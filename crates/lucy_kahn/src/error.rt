@@ -28,11 +28,3 @@ impl<T: Drop> From<AllocFailed<T>> for KahnError {
         KahnError::OutOfMemory
     }
 }
-
-impl From<lucy_host::OutOfMemory> for KahnError {
-    ghost from_gives = { λ _ e. e ≡ error.OutOfMemory };
-
-    fn from(_: lucy_host::OutOfMemory) -> Self {
-        KahnError::OutOfMemory
-    }
-}

@@ -2,6 +2,7 @@
 use Rattle.std.proofs.Common.{◌≡◌, ℕ, ◌+◌, ◌<◌, ◌≤◌, Bool, true, false, List, [], ◌∷◌, ◌++◌, length, Option, Some, None, Result, Ok, Err, refl, ap, sym, ◌∙◌, subst, inl, inr, arith, append_assoc, append-nil, length-append}
 use Rattle.std.specs.Prelude.{ℤ, ◌⊎◌, IsTrue, take, slice_set, slice_index_or}
 use Rattle.std.specs.Int.{w64}
+use Rattle.std.proofs.lemmas.Bool.{cases_Bool}
 use mir.Val.{SFits as FitsSigned}
 use Rattle.lucy_text.specs.Outside.{SeenSource, HasEnded, Rose, NoneFollows}
 use Rattle.lucy_text.proofs.OutsideLaws.{followed_more, followed-nil, still_none}
@@ -11,7 +12,7 @@ use Rattle.lucy_lines.specs.declared.reader.Line.TheVariants.{Item, End}
 use Rattle.lucy_lines.specs.declared.reader.TextFault.{TextFault}
 use Rattle.lucy_lines.specs.declared.reader.TextFault.TheVariants.{BadLine, UnknownStream, BadValue, ReadFault, TooLong}
 use Rattle.lucy_lines.specs.Fronts.{most_bytes}
-use Rattle.lucy_lines.specs.Cuts.{Held, bytes_taken, ItemOf, with_more, Stop as Halt, At, Before, Cut, input_of}
+use Rattle.lucy_lines.specs.Cuts.{Held, bytes_taken, ItemOf, with_more, Stop as Halt, At, Before, Cut, whole_input}
 use Rattle.lucy_lines.specs.Nexts.{Answer, Gives, Refuses, Wants, Next, blank, item, refused, long, too_long, wants, first, turn}
 use Rattle.lucy_lines.specs.Reading.{ReaderState, new_reader, Took, Asked, Blames, KeepsGoing, OfItem, IsLast, most_taken, most_read}
 use Rattle.lucy_lines.proofs.Answered.{refused_line, undecided, cut_of}
@@ -30,9 +31,9 @@ lead_on : (inputs : List InputSpec) (items : List ItemOf) (taken bytes : List �
 lead_on inputs items taken bytes held next was now i leads quiet n shut late others halt after c =
     let P : List ℕ → Type 0 = λ u. Cut inputs shut (with_more held (u ++ late)) (i ∷ others) halt in
     let one : Cut inputs shut (with_more held (bytes ++ late)) (i ∷ others) halt = subst P (append-nil bytes) (turns_cut shut late others halt (turn n quiet first) after c) in
-    let both : Cut inputs shut (input_of (taken ++ (bytes ++ late))) (items ++ i ∷ others) halt = leads shut (bytes ++ late) (i ∷ others) halt (λ e. joined (quiet e) after) one in
-    let Q : List ℕ → Type 0 = λ u. Cut inputs shut (input_of u) (items ++ i ∷ others) halt in
-    let R : List ItemOf → Type 0 = λ u. Cut inputs shut (input_of ((taken ++ bytes) ++ late)) u halt in
+    let both : Cut inputs shut (whole_input (taken ++ (bytes ++ late))) (items ++ i ∷ others) halt = leads shut (bytes ++ late) (i ∷ others) halt (λ e. joined (quiet e) after) one in
+    let Q : List ℕ → Type 0 = λ u. Cut inputs shut (whole_input u) (items ++ i ∷ others) halt in
+    let R : List ItemOf → Type 0 = λ u. Cut inputs shut (whole_input ((taken ++ bytes) ++ late)) u halt in
     subst R (sym (append_assoc items (i ∷ []) others)) (subst Q (sym (append_assoc taken bytes late)) both)
   where
     joined : (bytes ≡ []) × (now ≡ true) → (now ≡ true → (late ≡ []) × (shut ≡ true)) → (bytes ++ late ≡ []) × (shut ≡ true)
@@ -77,12 +78,8 @@ begins_cut : (inputs : List InputSpec) (reader : ReaderState) (before after : Se
     BeginCut inputs reader.closed taken items
 begins_cut inputs reader before after items taken g =
     let rest = some_cut inputs reader.closed (with_more reader.held []) in
-    let P : List ℕ → Type 0 = λ u. Cut inputs reader.closed (input_of u) (items ++ rest.0) rest.1 in
+    let P : List ℕ → Type 0 = λ u. Cut inputs reader.closed (whole_input u) (items ++ rest.0) rest.1 in
     (rest.0, rest.1, subst P (append-nil taken) (g.leads reader.closed [] rest.0 rest.1 (λ e. (refl, e)) rest.2))
-
-either : (b : Bool) → (b ≡ true) ⊎ (b ≡ false)
-either true = inl refl
-either false = inr refl
 
 -- reading may be given up behind what has been read
 up_to_here : (inputs : List InputSpec) (reader : ReaderState) (before after : SeenSource) (items : List ItemOf) (taken : List ℕ) → CanGoOn inputs reader before after items taken →
@@ -90,7 +87,7 @@ up_to_here : (inputs : List InputSpec) (reader : ReaderState) (before after : Se
 up_to_here inputs reader before after items taken g =
     let begin = begins_cut inputs reader before after items taken g in
     let few : length taken ≤ most_bytes + 1 = omega (arith, g.behind.counted, g.within) in
-    elim (either reader.closed) [
+    elim (cases_Bool reader.closed) [
       | inl shut ↦ record {
         stop = Drained;
         early = inl refl;
@@ -171,23 +168,23 @@ behind_call : (inputs : List InputSpec) (old new : ReaderState) (before between 
 behind_call inputs old new before between after result items taken bytes s c = record {
   took = followed_more before.left between.left after.left taken bytes s.behind.took c.took.bytes;
   counted = let a = s.behind.counted in let b = c.took.counted in let l = length-append taken bytes in omega arith;
-  met_end = λ e. elim (either old.closed) [
+  met_end = λ e. elim (cases_Bool old.closed) [
     | inl shut ↦ subst HasEnded (sym (c.unread shut)) (s.behind.met_end shut)
     | inr open_yet ↦ c.at_end open_yet e
   ];
-  none_follows = elim (either old.closed) [
+  none_follows = elim (cases_Bool old.closed) [
     | inl shut ↦ let P : SeenSource → Type 0 = λ u. NoneFollows before.since_stop u.since_stop in subst P (sym (c.unread shut)) s.behind.none_follows
     | inr open_yet ↦ λ none. c.none_follows (s.going open_yet none)
   ];
   asked = asked_still inputs taken bytes _ s.behind.asked
-      (asks_as inputs taken bytes (λ xs. xs ≡ items) (λ xs. Unit {0}) (λ xs same. tt) (asks_so inputs old new between after result items taken bytes s.kept s.leads c.took c.took.needed (either old.closed)));
+      (asks_as inputs taken bytes (λ xs. xs ≡ items) (λ xs. Unit {0}) (λ xs same. tt) (asks_so inputs old new between after result items taken bytes s.kept s.leads c.took c.took.needed (cases_Bool old.closed)));
 }
 
 -- a call asks behind the items that were read before it
 pub asks_behind : (inputs : List InputSpec) (old new : ReaderState) (counts : List ℕ) (before between after : SeenSource) (result : Result line_type.Line TextFault) (items : List ItemOf) (taken bytes : List ℕ) →
     IsOpen inputs before between old counts items taken → Called old new between after result bytes → AsksWhile (λ xs. xs ≡ items) inputs taken bytes
 asks_behind inputs old new counts before between after result items taken bytes o c =
-    asks_so inputs old new between after result items taken bytes o.goes_on.kept o.goes_on.leads c.took c.took.needed (either old.closed)
+    asks_so inputs old new between after result items taken bytes o.goes_on.kept o.goes_on.leads c.took c.took.needed (cases_Bool old.closed)
 
 -- what a call that gave an item goes on from
 item_more : (inputs : List InputSpec) (old new : ReaderState) (before between after : SeenSource) (items : List ItemOf) (taken bytes : List ℕ) (stream : ℕ) (value : ℤ) →
@@ -202,7 +199,7 @@ item_more inputs old new before between after items taken bytes stream value s c
       leads = lead_on inputs items taken bytes old.held new.held old.closed new.closed i s.leads c.took.quiet (subst P s.kept c.took.answer);
       within = c.within;
       calm = c.cause ∙ s.calm;
-      going = λ e none. c.goes_on e (s.going (still_open old.closed new.closed bytes (either old.closed) c.took.quiet e) none);
+      going = λ e none. c.goes_on e (s.going (still_open old.closed new.closed bytes (cases_Bool old.closed) c.took.quiet e) none);
     }
   where
     still_open : (was closed : Bool) (bytes : List ℕ) → (was ≡ true) ⊎ (was ≡ false) → (was ≡ true → (bytes ≡ []) × (closed ≡ true)) → closed ≡ false → was ≡ false
@@ -238,7 +235,7 @@ ended inputs old new counts fault before between after items taken bytes o c shu
     let met = b.met_end c.took.answer.0 in
     let P : List InputSpec → Type 0 = λ u. Next u true (with_more old.held bytes) (Wants new.held) in
     let Q : Bool → Type 0 = λ u. Next old.inputs u (with_more old.held bytes) (Wants new.held) in
-    let R : List ItemOf → Type 0 = λ u. Cut inputs true (input_of (taken ++ bytes)) u (Before new.held) in
+    let R : List ItemOf → Type 0 = λ u. Cut inputs true (whole_input (taken ++ bytes)) u (Before new.held) in
     let T : Option TextFault → Type 0 = λ u. StopsFor u Ended in
     let cut = s.leads true bytes [] (Before new.held) (λ e. let q = c.took.quiet e in (q.0, refl)) (cut_of (undecided (subst P s.kept (subst Q c.took.answer.0 c.took.answer.1)))) in (
       bytes,
@@ -266,7 +263,7 @@ failed inputs old new counts before between after items taken bytes o c shut =
     let P : List InputSpec → Type 0 = λ u. Next u false (with_more old.held bytes) (Wants new.held) in
     let Q : Bool → Type 0 = λ u. Next old.inputs u (with_more old.held bytes) (Wants new.held) in
     let R : ℕ → Type 0 = λ u. Rose u after.faults in
-    let T : List ItemOf → Type 0 = λ u. Cut inputs false (input_of (taken ++ bytes)) u (Before new.held) in
+    let T : List ItemOf → Type 0 = λ u. Cut inputs false (whole_input (taken ++ bytes)) u (Before new.held) in
     let cut = s.leads false bytes [] (Before new.held) (λ e. let q = c.took.quiet e in let no_more : true ≡ false = sym q.1 ∙ c.took.answer.0 in cc)
     (cut_of (undecided (subst P s.kept (subst Q c.took.answer.0 c.took.answer.1)))) in (
       bytes,
@@ -296,7 +293,7 @@ line_refused inputs old new counts before between after items taken bytes f o c 
     let met = b.met_end shut in
     let P : List InputSpec → Type 0 = λ u. Next u true (with_more old.held bytes) (Refuses f) in
     let Q : Bool → Type 0 = λ u. Next old.inputs u (with_more old.held bytes) (Refuses f) in
-    let T : List ItemOf → Type 0 = λ u. Cut inputs true (input_of (taken ++ bytes)) u (At f) in
+    let T : List ItemOf → Type 0 = λ u. Cut inputs true (whole_input (taken ++ bytes)) u (At f) in
     let cut = s.leads true bytes [] (At f) (λ e. let q = c.took.quiet e in (q.0, refl)) (cut_of (refused_line (subst P s.kept (subst Q shut n)))) in (
       bytes,
       Drained,
@@ -318,7 +315,7 @@ line_refused inputs old new counts before between after items taken bytes f o c 
     let room = c.within in
     let P : List InputSpec → Type 0 = λ u. Next u false (with_more old.held bytes) (Refuses f) in
     let Q : Bool → Type 0 = λ u. Next old.inputs u (with_more old.held bytes) (Refuses f) in
-    let T : List ItemOf → Type 0 = λ u. Cut inputs false (input_of (taken ++ bytes)) u (At f) in
+    let T : List ItemOf → Type 0 = λ u. Cut inputs false (whole_input (taken ++ bytes)) u (At f) in
     let cut = s.leads false bytes [] (At f) (λ e. let q = c.took.quiet e in let no_more : true ≡ false = sym q.1 ∙ open_yet in cc)
     (cut_of (refused_line (subst P s.kept (subst Q open_yet n)))) in (
       bytes,
@@ -338,10 +335,10 @@ line_refused inputs old new counts before between after items taken bytes f o c 
 stopped_at : (inputs : List InputSpec) (old new : ReaderState) (counts : List ℕ) (before between after : SeenSource) (items : List ItemOf) (taken bytes : List ℕ) (f : TextFault) →
     IsOpen inputs before between old counts items taken → Called old new between after (Err f) bytes → new.ended ≡ true → Stops inputs before after new counts (Some f) items taken
 stopped_at inputs old new counts before between after items taken bytes ReadFault s c e = failed inputs old new counts before between after items taken bytes s c e
-stopped_at inputs old new counts before between after items taken bytes (BadLine k) s c e = line_refused inputs old new counts before between after items taken bytes (BadLine k) s c e c.took.answer refl c.cause (λ stop e. e) (either new.closed)
-stopped_at inputs old new counts before between after items taken bytes (UnknownStream k) s c e = line_refused inputs old new counts before between after items taken bytes (UnknownStream k) s c e c.took.answer refl c.cause (λ stop e. e) (either new.closed)
-stopped_at inputs old new counts before between after items taken bytes (BadValue k) s c e = line_refused inputs old new counts before between after items taken bytes (BadValue k) s c e c.took.answer refl c.cause (λ stop e. e) (either new.closed)
-stopped_at inputs old new counts before between after items taken bytes TooLong s c e = line_refused inputs old new counts before between after items taken bytes TooLong s c e c.took.answer refl c.cause (λ stop e. e) (either new.closed)
+stopped_at inputs old new counts before between after items taken bytes (BadLine k) s c e = line_refused inputs old new counts before between after items taken bytes (BadLine k) s c e c.took.answer refl c.cause (λ stop e. e) (cases_Bool new.closed)
+stopped_at inputs old new counts before between after items taken bytes (UnknownStream k) s c e = line_refused inputs old new counts before between after items taken bytes (UnknownStream k) s c e c.took.answer refl c.cause (λ stop e. e) (cases_Bool new.closed)
+stopped_at inputs old new counts before between after items taken bytes (BadValue k) s c e = line_refused inputs old new counts before between after items taken bytes (BadValue k) s c e c.took.answer refl c.cause (λ stop e. e) (cases_Bool new.closed)
+stopped_at inputs old new counts before between after items taken bytes TooLong s c e = line_refused inputs old new counts before between after items taken bytes TooLong s c e c.took.answer refl c.cause (λ stop e. e) (cases_Bool new.closed)
 
 -- the items stop before the end
 pub stopped : (inputs : List InputSpec) (old new : ReaderState) (counts : List ℕ) (fault : Option TextFault) (before between after : SeenSource) (items : List ItemOf) (taken bytes : List ℕ) (f : TextFault) →

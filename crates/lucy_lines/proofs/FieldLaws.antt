@@ -6,11 +6,10 @@ use Rattle.std.specs.List.{prefix_len, slice_split, onto_first}
 use Rattle.std.proofs.Math.ListN.{drop_of_length-le}
 use Rattle.std.proofs.lemmas.List.{get_or-drop, take_rest, length-drop}
 use Rattle.std.proofs.lemmas.List.Sums.{prefix_len_stops}
-use Rattle.std.proofs.lemmas.Bool.{ltb-true, ltb-false}
+use Rattle.std.proofs.lemmas.Bool.{ltb-true, ltb-false, cases_Bool}
 use Rattle.memchr.specs.Find.{IsFirstByte}
 use Rattle.bstr.specs.Bytes.{is_in}
-use Rattle.lucy_lines.specs.Fields.{is_blank, fields}
-use Rattle.lucy_lines.proofs.FrontLaws.{either}
+use Rattle.lucy_lines.specs.Fields.{is_space, line_fields}
 use Rattle.lucy_lines.proofs.Runs.{run_value, run_same}
 
 -- the byte before the first field of the rest
@@ -21,19 +20,19 @@ before_field c (field ∷ more) = (c ∷ field) ∷ more
 -- the byte, which is no blank, before the rest of its line, which has these fields
 abbrev joined : ℕ → List ℕ → List (List ℕ) → List (List ℕ)
 joined c [] more = (c ∷ []) ∷ []
-joined c (d ∷ line) more = if is_blank d then (c ∷ []) ∷ more else before_field c more
+joined c (d ∷ line) more = if is_space d then (c ∷ []) ∷ more else before_field c more
 
 -- the fields, byte by byte
 abbrev pieces : List ℕ → List (List ℕ)
 pieces [] = []
-pieces (c ∷ line) = if is_blank c then pieces line else joined c line (pieces line)
+pieces (c ∷ line) = if is_space c then pieces line else joined c line (pieces line)
 
 -- the parts that have a byte
 abbrev some_parts : List (List ℕ) → List (List ℕ)
 some_parts parts = filter (λ part. nat_lt 0 (length part)) parts
 
 has_byte : (c : ℕ) (part : List ℕ) → nat_lt 0 (length (c ∷ part)) ≡ true
-has_byte c part = elim (either (nat_lt 0 (length (c ∷ part)))) [
+has_byte c part = elim (cases_Bool (nat_lt 0 (length (c ∷ part)))) [
   | inl e ↦ e
   | inr e ↦ let none : length (c ∷ part) ≤ 0 = ltb-false 0 (length (c ∷ part)) e in absurd (omega arith)
 ]
@@ -46,46 +45,46 @@ some_joined c d [] = some_first c (d ∷ []) [] ∙ sym (ap (before_field c) (so
 some_joined c d (part ∷ parts) = some_first c (d ∷ part) parts ∙ sym (ap (before_field c) (some_first d part parts))
 
 -- the parts of a line behind a byte that is no blank
-some_onto : (c : ℕ) (line : List ℕ) → some_parts (onto_first c (slice_split is_blank line)) ≡ joined c line (some_parts (slice_split is_blank line))
+some_onto : (c : ℕ) (line : List ℕ) → some_parts (onto_first c (slice_split is_space line)) ≡ joined c line (some_parts (slice_split is_space line))
 some_onto c [] = some_first c [] []
-some_onto c (d ∷ line) = elim (either (is_blank d)) [
+some_onto c (d ∷ line) = elim (cases_Bool (is_space d)) [
   | inl e ↦
-      ap (λ b. some_parts (onto_first c (cond b ([] ∷ slice_split is_blank line) (onto_first d (slice_split is_blank line))))) e
-      ∙ some_first c [] (slice_split is_blank line)
-      ∙ sym (ap (λ b. cond b ((c ∷ []) ∷ some_parts (cond b ([] ∷ slice_split is_blank line) (onto_first d (slice_split is_blank line))))
-      (before_field c (some_parts (cond b ([] ∷ slice_split is_blank line) (onto_first d (slice_split is_blank line)))))) e)
+      ap (λ b. some_parts (onto_first c (cond b ([] ∷ slice_split is_space line) (onto_first d (slice_split is_space line))))) e
+      ∙ some_first c [] (slice_split is_space line)
+      ∙ sym (ap (λ b. cond b ((c ∷ []) ∷ some_parts (cond b ([] ∷ slice_split is_space line) (onto_first d (slice_split is_space line))))
+      (before_field c (some_parts (cond b ([] ∷ slice_split is_space line) (onto_first d (slice_split is_space line)))))) e)
   | inr e ↦
-      ap (λ b. some_parts (onto_first c (cond b ([] ∷ slice_split is_blank line) (onto_first d (slice_split is_blank line))))) e
-      ∙ some_joined c d (slice_split is_blank line)
-      ∙ sym (ap (λ b. cond b ((c ∷ []) ∷ some_parts (cond b ([] ∷ slice_split is_blank line) (onto_first d (slice_split is_blank line))))
-      (before_field c (some_parts (cond b ([] ∷ slice_split is_blank line) (onto_first d (slice_split is_blank line)))))) e)
+      ap (λ b. some_parts (onto_first c (cond b ([] ∷ slice_split is_space line) (onto_first d (slice_split is_space line))))) e
+      ∙ some_joined c d (slice_split is_space line)
+      ∙ sym (ap (λ b. cond b ((c ∷ []) ∷ some_parts (cond b ([] ∷ slice_split is_space line) (onto_first d (slice_split is_space line))))
+      (before_field c (some_parts (cond b ([] ∷ slice_split is_space line) (onto_first d (slice_split is_space line)))))) e)
 ]
 
 -- the fields are these
-fields_are : (line : List ℕ) → fields line ≡ pieces line
-unfolding fields
+fields_are : (line : List ℕ) → line_fields line ≡ pieces line
+unfolding line_fields
 fields_are [] = refl
-fields_are (c ∷ line) = elim (either (is_blank c)) [
+fields_are (c ∷ line) = elim (cases_Bool (is_space c)) [
   | inl e ↦
-      ap (λ b. some_parts (cond b ([] ∷ slice_split is_blank line) (onto_first c (slice_split is_blank line)))) e
+      ap (λ b. some_parts (cond b ([] ∷ slice_split is_space line) (onto_first c (slice_split is_space line)))) e
       ∙ fields_are line ∙ sym (ap (λ b. cond b (pieces line) (joined c line (pieces line))) e)
   | inr e ↦
-      ap (λ b. some_parts (cond b ([] ∷ slice_split is_blank line) (onto_first c (slice_split is_blank line)))) e
+      ap (λ b. some_parts (cond b ([] ∷ slice_split is_space line) (onto_first c (slice_split is_space line)))) e
       ∙ some_onto c line ∙ ap (joined c line) (fields_are line) ∙ sym (ap (λ b. cond b (pieces line) (joined c line (pieces line))) e)
 ]
 
 abbrev pub is_dark : ℕ → Bool
-is_dark c = not (is_blank c)
+is_dark c = not (is_space c)
 
 one_add : (n : ℕ) → 1 + n ≡ suc n
 one_add n = omega arith
 
 -- blanks at the front make no difference
-pieces_behind : (line : List ℕ) → pieces line ≡ pieces (drop (prefix_len is_blank line) line)
+pieces_behind : (line : List ℕ) → pieces line ≡ pieces (drop (prefix_len is_space line) line)
 pieces_behind [] = refl
 pieces_behind (c ∷ line) =
-    let n : ℕ = prefix_len is_blank line in
-    elim (either (is_blank c)) [
+    let n : ℕ = prefix_len is_space line in
+    elim (cases_Bool (is_space c)) [
       | inl e ↦
           ap (λ b. cond b (pieces line) (joined c line (pieces line))) e ∙ pieces_behind line ∙
           sym (ap (λ b. pieces (drop (cond b (1 + n) 0) (c ∷ line))) e ∙ ap (λ k. pieces (drop k (c ∷ line))) (one_add n))
@@ -93,11 +92,11 @@ pieces_behind (c ∷ line) =
     ]
 
 -- blanks alone have no field
-pieces_none : (line : List ℕ) → prefix_len is_blank line ≡ length line → pieces line ≡ []
+pieces_none : (line : List ℕ) → prefix_len is_space line ≡ length line → pieces line ≡ []
 pieces_none line e = pieces_behind line ∙ ap pieces (ap (λ n. drop n line) e ∙ drop_of_length-le line (omega arith))
 
-dark_first : (c : ℕ) (line : List ℕ) → 0 < prefix_len is_dark (c ∷ line) → is_blank c ≡ false
-dark_first c line some = elim (either (is_blank c)) [
+dark_first : (c : ℕ) (line : List ℕ) → 0 < prefix_len is_dark (c ∷ line) → is_space c ≡ false
+dark_first c line some = elim (cases_Bool (is_space c)) [
   | inl e ↦ absurd (omega (arith, some, ap (λ b. cond (not b) (1 + prefix_len is_dark line) 0) e))
   | inr e ↦ e
 ]
@@ -116,7 +115,7 @@ pieces_first (c ∷ d ∷ line) some =
     let m : ℕ = prefix_len is_dark rest in
     let n : prefix_len is_dark (c ∷ rest) ≡ 1 + m = ap (λ b. cond (not b) (1 + m) 0) e in
     let first = ap (λ b. cond b (pieces rest) (joined c rest (pieces rest))) e in
-    elim (either (is_blank d)) [
+    elim (cases_Bool (is_space d)) [
       | inl f ↦
           let z : m ≡ 0 = ap (λ b. cond (not b) (1 + prefix_len is_dark line) 0) f in
           let one : prefix_len is_dark (c ∷ rest) ≡ 1 = n ∙ ap (λ k. 1 + k) z in
@@ -139,19 +138,19 @@ or_last true b = refl
 or_last false true = refl
 or_last false false = refl
 
-in_blanks : (c : ℕ) → is_in blanks c ≡ is_blank c
+in_blanks : (c : ℕ) → is_in blanks c ≡ is_space c
 unfolding is_in
 in_blanks c = or_last (c == 32) (c == 9)
 
 -- behind the blanks a line has a field at its front, where it has any byte
-some_dark : (line : List ℕ) → prefix_len is_blank line < length line → 0 < prefix_len is_dark (drop (prefix_len is_blank line) line)
+some_dark : (line : List ℕ) → prefix_len is_space line < length line → 0 < prefix_len is_dark (drop (prefix_len is_space line) line)
 some_dark line h =
-    let start : ℕ = prefix_len is_blank line in
+    let start : ℕ = prefix_len is_space line in
     let rest : List ℕ = drop start line in
     let long = length-drop start line in
     let at : get_or rest 0 0 ≡ get_or line start 0 = get_or-drop start line 0 0 ∙ ap (λ k. get_or line k 0) (add-zero start) in
-    let dark : is_dark (get_or rest 0 0) ≡ true = ap is_dark at ∙ ap not (prefix_len_stops is_blank line 0 h) in
-    elim (either (nat_lt 0 (prefix_len is_dark rest))) [
+    let dark : is_dark (get_or rest 0 0) ≡ true = ap is_dark at ∙ ap not (prefix_len_stops is_space line 0 h) in
+    elim (cases_Bool (nat_lt 0 (prefix_len is_dark rest))) [
       | inl e ↦ ltb-true 0 (prefix_len is_dark rest) e
       | inr e ↦
           let none : prefix_len is_dark rest ≡ 0 = let k : prefix_len is_dark rest ≤ 0 = ltb-false 0 (prefix_len is_dark rest) e in omega arith in
@@ -163,24 +162,24 @@ some_dark line h =
     true_false u = cc
 
 -- the first field and the rest, by the number of blanks at the front and the first blank behind them
-first_piece : (line rest : List ℕ) (start end : ℕ) (r : Option ℕ) → start ≡ prefix_len is_blank line → rest ≡ drop start line → 0 < length rest →
+first_piece : (line rest : List ℕ) (start end : ℕ) (r : Option ℕ) → start ≡ prefix_len is_space line → rest ≡ drop start line → 0 < length rest →
     IsFirstByte (is_in blanks) rest r → end ≡ unwrap_or r (length rest) →
     pieces line ≡ take end rest ∷ pieces (take (length rest - end) (drop end rest))
 first_piece line rest start end r s t some k e =
-    let blank : prefix_len is_blank line < length line = let n = ap length t in let m = length-drop start line in omega arith in
-    let behind : rest ≡ drop (prefix_len is_blank line) line = t ∙ ap (λ n. drop n line) s in
+    let blank : prefix_len is_space line < length line = let n = ap length t in let m = length-drop start line in omega arith in
+    let behind : rest ≡ drop (prefix_len is_space line) line = t ∙ ap (λ n. drop n line) s in
     let dark : end ≡ prefix_len is_dark rest = e ∙ run_value (is_in blanks) rest r k ∙ run_same (λ c. not (is_in blanks c)) is_dark (λ c. ap not (in_blanks c)) rest in
     let first : 0 < prefix_len is_dark rest = let Q : List ℕ → Type 0 = λ u. 0 < prefix_len is_dark u in subst Q (sym behind) (some_dark line blank) in
     pieces_behind line ∙ ap pieces (sym behind) ∙ pieces_first rest first ∙
     sym (ap (λ n. take n rest ∷ pieces (drop n rest)) dark) ∙ ap (λ u. take end rest ∷ pieces u) (sym (take_rest rest end))
 
 -- blanks alone have no field
-pub fields_none : (line : List ℕ) → prefix_len is_blank line ≡ length line → fields line ≡ []
+pub fields_none : (line : List ℕ) → prefix_len is_space line ≡ length line → line_fields line ≡ []
 fields_none line e = fields_are line ∙ pieces_none line e
 
 -- the first field and the rest, by the number of blanks at the front and the first blank behind them
-pub first_field : (line rest : List ℕ) (start end : ℕ) (r : Option ℕ) → start ≡ prefix_len is_blank line → rest ≡ drop start line → 0 < length rest →
+pub first_field : (line rest : List ℕ) (start end : ℕ) (r : Option ℕ) → start ≡ prefix_len is_space line → rest ≡ drop start line → 0 < length rest →
     IsFirstByte (is_in blanks) rest r → end ≡ unwrap_or r (length rest) →
-    fields line ≡ take end rest ∷ fields (take (length rest - end) (drop end rest))
+    line_fields line ≡ take end rest ∷ line_fields (take (length rest - end) (drop end rest))
 first_field line rest start end r s t some k e =
     fields_are line ∙ first_piece line rest start end r s t some k e ∙ ap (λ u. take end rest ∷ u) (sym (fields_are (take (length rest - end) (drop end rest))))

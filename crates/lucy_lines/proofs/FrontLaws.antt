@@ -2,7 +2,7 @@
 use Rattle.std.proofs.Common.{◌≡◌, ℕ, ◌+◌, ◌-◌, ◌<◌, ◌≤◌, ◌==◌, ◌≢◌, Bool, true, false, not, cond, List, ◌++◌, length, get_or, refl, ap, sym, ◌∙◌, inl, inr, arith, length-append}
 use Rattle.std.specs.Prelude.{nat_lt, ◌⊎◌}
 use Rattle.std.proofs.Math.ListN.{get_or-append}
-use Rattle.std.proofs.lemmas.Bool.{cond_both, eqb-false, lt-ltb, le-ltb, ltb-true, ltb-false}
+use Rattle.std.proofs.lemmas.Bool.{cond_both, eqb-false, lt-ltb, le-ltb, ltb-true, ltb-false, cases_Bool}
 use Rattle.std.proofs.lemmas.Bool.Decides.{nat_tests}
 use Rattle.std.proofs.lemmas.List.Sums.{prefix_len-le-length}
 use Rattle.std.proofs.lemmas.List.Folds.{prefix_len-append}
@@ -10,12 +10,14 @@ use Rattle.lucy_lines.specs.declared.front.Front.{Front}
 use Rattle.lucy_lines.specs.declared.front.Front.TheVariants.{Line, Long, Past, Open}
 use Rattle.lucy_lines.specs.Fronts.{most_bytes, longest_line, run, reach, judge, content_of, judged, last_line, front_of}
 
-abbrev is_other : ℕ → Bool
+-- a byte that is no line feed
+abbrev pub is_other : ℕ → Bool
 is_other c = not (c == 10)
 
 pub run_within : (a : List ℕ) → run a ≤ length a
 run_within a = prefix_len-le-length is_other a
 
+-- a run that ended goes no further
 pub run_more : (a b : List ℕ) → run a < length a → run (a ++ b) ≡ run a
 run_more a b h =
     let e = prefix_len-append is_other a b in
@@ -33,20 +35,16 @@ reach_range a = cond_both (get_or a longest_line 0 == 13) (longest_line + 1) lon
 pub reach_more : (a b : List ℕ) → longest_line < length a → reach (a ++ b) ≡ reach a
 reach_more a b h = ap (λ c. cond (c == 13) (longest_line + 1) longest_line) (get_or-append a b 0 longest_line h)
 
-pub either : (b : Bool) → (b ≡ true) ⊎ (b ≡ false)
-either true = inl refl
-either false = inr refl
-
 -- reach is the same, or all of a stands before it
 reach_or : (a b : List ℕ) → (reach (a ++ b) ≡ reach a) ⊎ (length a ≤ longest_line)
-reach_or a b = elim (either (nat_lt longest_line (length a))) [
+reach_or a b = elim (cases_Bool (nat_lt longest_line (length a))) [
   | inl h ↦ inl (reach_more a b (ltb-true longest_line (length a) h))
   | inr h ↦ inr (ltb-false longest_line (length a) h)
 ]
 
 -- the line feed is in a and stays, or all of a stands before it
 run_or : (a b : List ℕ) → ((run (a ++ b) ≡ run a) × (run a < length a)) ⊎ ((length a ≤ run (a ++ b)) × (run a ≡ length a))
-run_or a b = elim (either (nat_lt (run a) (length a))) [
+run_or a b = elim (cases_Bool (nat_lt (run a) (length a))) [
   | inl h ↦ let k : run a < length a = ltb-true (run a) (length a) h in inl (run_more a b k, k)
   | inr h ↦ let k : length a ≤ run a = ltb-false (run a) (length a) h in let w = run_within a in inr (run_open a b k, omega arith)
 ]
@@ -81,7 +79,7 @@ line_more a b h =
 pub judged_more : (a b : List ℕ) → judge a < length a → judged (a ++ b) ≡ judged a
 judged_more a b h =
     let r = reach_range a in let q = reach_range (a ++ b) in
-    elim (either (nat_lt (reach a) (run a))) [
+    elim (cases_Bool (nat_lt (reach a) (run a))) [
       | inl t ↦
           let past : reach a < run a = ltb-true (reach a) (run a) t in
           let inside = run_within a in

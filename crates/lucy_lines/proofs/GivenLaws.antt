@@ -4,7 +4,7 @@ use Rattle.std.specs.Prelude.{ℤ, IsErr}
 use Rattle.lucy_lines.specs.declared.input.InputSpec.{InputSpec}
 use Rattle.lucy_lines.specs.Cuts.{ItemOf}
 use Rattle.lucy_lines.specs.Fronts.{most_bytes}
-use Rattle.lucy_word.specs.declared.error.OutOfMemory.{OutOfMemory}
+use Rattle.std.specs.declared.alloc.AllocError.{AllocError}
 use Rattle.lucy_text.proofs.OutsideLaws.{followed-nil, still_none}
 use Rattle.std.proofs.lemmas.List.FromFn.{length-map-range_with_len}
 use Rattle.lucy_lines.specs.declared.feeds.Feed.{Feed}
@@ -14,11 +14,11 @@ use Rattle.lucy_lines.specs.Feeding.{values_of, IsAsked, IsFeed, IsFeedOf}
 use Rattle.lucy_lines.specs.Resuming.{FeedState, HasRead, IsGivenUp, AreFresh, ReadsMore, GivesUp}
 
 -- what the reading of an input gives
-abbrev pub GivesFeed : List InputSpec → (before after : SeenSource) → Result Feed OutOfMemory → Type 0
+abbrev pub GivesFeed : List InputSpec → (before after : SeenSource) → Result Feed AllocError → Type 0
 GivesFeed inputs before after result = (taken : List ℕ) × (stop : ReadStop) × Read most_bytes before after taken stop × IsAsked inputs taken × IsFeed inputs taken stop result
 
 -- memory ran out before anything was read
-pub nothing_read : (inputs : List InputSpec) (source : SeenSource) (result : Result Feed OutOfMemory) → IsErr result → GivesFeed inputs source source result
+pub nothing_read : (inputs : List InputSpec) (source : SeenSource) (result : Result Feed AllocError) → IsErr result → GivesFeed inputs source source result
 nothing_read inputs source (Ok feed) is = cc
 nothing_read inputs source (Err e) is = ([], Open, record { took = sym (followed-nil source.left); stopped = (omega arith, refl); none_follows = still_none source.since_stop }, inl refl, refl)
 
@@ -32,7 +32,7 @@ read_early inputs first now items taken g = elim g.early [
 ]
 
 -- or later
-pub none_read_on : (inputs : List InputSpec) (first now : SeenSource) (s : FeedState) (result : Result Feed OutOfMemory) → IsErr result → HasRead inputs first first s [] [] → AreFresh inputs s [] →
+pub none_read_on : (inputs : List InputSpec) (first now : SeenSource) (s : FeedState) (result : Result Feed AllocError) → IsErr result → HasRead inputs first first s [] [] → AreFresh inputs s [] →
     GivesUp first now s → GivesFeed inputs first now result
 none_read_on inputs first now s (Ok feed) is begun fresh up = cc
 none_read_on inputs first now s (Err e) is begun fresh up = let (bytes, g) = up inputs first [] [] [] begun fresh in (bytes, Open, read_early inputs first now [] bytes g, g.asked, refl)

@@ -4,6 +4,7 @@ use Rattle.std.specs.List.{slice_get}
 use Rattle.lucy_word.specs.Bits.{Bits, bit_at, ones_to, one_if}
 use Rattle.lucy_word.proofs.BitsLaws.{ones_to-none, ones_to-more}
 use Rattle.lucy_word.proofs.IndexLaws.{ones_to-rises}
+use Rattle.lucy_host.proofs.Elements.{get_take}
 use Rattle.lucy_lines.specs.declared.output.OutputSpec.{OutputSpec}
 use Rattle.lucy_lines.specs.Outputs.{line_with_value, value_at, value_after, instant_text, instant_after, output_text, more_lines, lines_after}
 use Rattle.lucy_lines.specs.OutputLaws.{TextsGrow, BeginAlike, FrontsSuffice, AreRests, BlockByBlock}
@@ -37,14 +38,8 @@ texts_grow outputs lists t u le =
     subst P e more
 
 -- an item stands in each front that is long enough
-front_item : (n k : ℕ) (items : List ℤ) → k < n → slice_get (take n items) k ≡ slice_get items k
-front_item zero k items lt = absurd (omega arith)
-front_item (suc n) k [] lt = refl
-front_item (suc n) zero (item ∷ items) lt = refl
-front_item (suc n) (suc k) (item ∷ items) lt = front_item n k items (omega arith)
-
 same_item : (n k : ℕ) (items others : List ℤ) → take n items ≡ take n others → k < n → slice_get items k ≡ slice_get others k
-same_item n k items others same lt = sym (front_item n k items lt) ∙ ap (λ front. slice_get front k) same ∙ front_item n k others lt
+same_item n k items others same lt = sym (get_take n items k lt) ∙ ap (λ front. slice_get front k) same ∙ get_take n others k lt
 
 -- what is read at a one alone
 at_one : (bit : Bool) (a b : Option ℤ) → (bit ≡ true → a ≡ b) → (if bit then a else None) ≡ (if bit then b else None)

@@ -13,7 +13,7 @@ use Rattle.lucy_lines.specs.declared.reader.TextFault.TheVariants.{BadLine, Unkn
 use Rattle.lucy_text.specs.Outside.{SeenSource, GaveBytes, HasEnded}
 use Rattle.lucy_text.proofs.OutsideLaws.{followed, followed_more, followed-nil}
 use Rattle.lucy_lines.specs.Fronts.{most_bytes, front_of}
-use Rattle.lucy_lines.specs.Fields.{fields}
+use Rattle.lucy_lines.specs.Fields.{line_fields}
 use Rattle.lucy_lines.specs.Kinds.{FieldsSay}
 use Rattle.lucy_lines.specs.Cuts.{Held, bytes_taken, with_more, ItemOf, refusal}
 use Rattle.lucy_lines.specs.Nexts.{Answer, Gives, Refuses, Wants, Next, blank, item, refused, long, too_long, wants}
@@ -297,7 +297,7 @@ gives_line {inputs = inputs} {closed = closed} {h} {g} {i} a e (blank {content =
 gives_line {inputs = inputs} {closed = closed} {h} {g} {i} a e (item {content = content} {length = n} {stream = s} {value = v} f k) =
     let w = line_within closed h.used h.rest content n f in
     let some = w.some in
-    let known = stream_said inputs (fields (take content h.rest)) s v k in
+    let known = stream_said inputs (line_fields (take content h.rest)) s v k in
     let P : Answer → Type 0 = λ u. gives_holds (λ j k. OfLine inputs h k j.stream) u in
     subst P e (record { known = known; uses = omega arith })
 gives_line a e (refused k f s r) = cc

@@ -14,7 +14,7 @@ use Rattle.lucy_lines.specs.declared.reader.Step.{Step}
 use Rattle.lucy_lines.specs.declared.reader.Step.TheVariants as step
 use Rattle.lucy_lines.specs.Fronts.{front_of}
 use Rattle.lucy_lines.specs.Values.{SpellsValue}
-use Rattle.lucy_lines.specs.Fields.{fields}
+use Rattle.lucy_lines.specs.Fields.{line_fields}
 use Rattle.lucy_lines.specs.Kinds.{IsKind, FieldsSay}
 use Rattle.lucy_lines.specs.Cuts.{Held}
 use Rattle.lucy_lines.specs.Nexts.{Answer, Gives, Wants, Next, blank, item, refused, wants}
@@ -34,7 +34,7 @@ fields_fit inputs (a ∷ b ∷ []) s v (i, p, q) = spells_fits i.holds b v q
 fields_fit inputs (a ∷ b ∷ c ∷ fs) s v h = cc
 
 pub kind_fits : (inputs : List InputSpec) (line : List ℕ) (s : ℕ) (v : ℤ) → IsKind inputs line (kind.Item s v) → FitsSigned w64 v
-kind_fits inputs line s v h = fields_fit inputs (fields line) s v h
+kind_fits inputs line s v h = fields_fit inputs (line_fields line) s v h
 
 pub line_steps : (old new : ReaderState) (content length : ℕ) (said : Kind) → front_of old.closed old.held.used old.held.rest ≡ front.Line content length →
     IsKind old.inputs (take content old.held.rest) said → new ≡ behind old length → Steps old new (step_at (old.held.lines + 1) said)

@@ -1,8 +1,8 @@
 -- Laws of a reading that is resumed.
-use Rattle.std.proofs.Common.{◌≡◌, ℕ, Bool, Option, Some, None, Result, Ok, Err, OnOk, OnErr, ◌<◌, true, false, List, [], ◌∷◌, ◌++◌, length, refl, ap, sym, ◌∙◌, subst, inl, inr, arith, append_assoc, append-nil}
+use Rattle.std.proofs.Common.{◌≡◌, ℕ, Bool, Option, Some, None, ◌<◌, true, false, List, [], ◌∷◌, ◌++◌, length, refl, ap, sym, ◌∙◌, subst, inl, inr, arith, append_assoc, append-nil}
 use Rattle.std.specs.Prelude.{ℤ, ◌⊎◌, slice_set, slice_index_or, IfSome, MatchOption}
 use Rattle.lucy_lines.specs.declared.input.InputSpec.{InputSpec}
-use Rattle.lucy_lines.specs.Cuts.{ItemOf, Stop as Halt, Cut, input_of}
+use Rattle.lucy_lines.specs.Cuts.{ItemOf, Stop as Halt, Cut, whole_input}
 use Rattle.lucy_lines.specs.Reading.{ReaderState}
 use Rattle.lucy_text.specs.Outside.{SeenSource}
 use Rattle.lucy_text.specs.Sources.{ReadStop}
@@ -77,7 +77,7 @@ passes_on a b c s t u p q inputs first items taken read =
 -- what stands in front of items stands in front of what they begin
 begin_before : (inputs : List InputSpec) (closed : Bool) (taken : List ℕ) (items more : List ItemOf) → BeginCut inputs closed taken (items ++ more) → BeginCut inputs closed taken items
 begin_before inputs closed taken items more (others, halt, cut) =
-    let P : List ItemOf → Type 0 = λ u. Cut inputs closed (input_of taken) u halt in
+    let P : List ItemOf → Type 0 = λ u. Cut inputs closed (whole_input taken) u halt in
     (more ++ others, halt, subst P (append_assoc items more others) cut)
 
 given_up_before : (inputs : List InputSpec) (first now : SeenSource) (items more : List ItemOf) (taken : List ℕ) → IsGivenUp inputs first now (items ++ more) taken → IsGivenUp inputs first now items taken
@@ -169,21 +169,3 @@ line_passed before after old new (Some a) item open_yet more stops = item_passed
 pub one_way : {A : Type 0} (result : Option A) (P Q : Type 0) → MatchOption result P (λ a. Q) → P ⊎ Q
 one_way None P Q is = inl is
 one_way (Some a) P Q is = inr is
-
--- a fact of an answer that is right, and of one that is an error
-pub on_ok : {T E : Type 0} (result : Result T E) (P : Type 0) → P → OnOk result P
-on_ok (Ok value) P holds = holds
-on_ok (Err e) P holds = tt
-
-pub on_err : {T E : Type 0} (result : Result T E) (P : Type 0) → P → OnErr result P
-on_err (Ok value) P holds = tt
-on_err (Err e) P holds = holds
-
--- and of the other
-pub none_on_ok : {T E : Type 0} (result : Result T E) (e : E) (P : Type 0) → result ≡ Err e → OnOk result P
-none_on_ok (Ok value) e P is = cc
-none_on_ok (Err f) e P is = tt
-
-pub none_on_err : {T E : Type 0} (result : Result T E) (value : T) (P : Type 0) → result ≡ Ok value → OnErr result P
-none_on_err (Ok v) value P is = tt
-none_on_err (Err f) value P is = cc

@@ -1,12 +1,13 @@
 -- Laws of the lines of a block that are written instant by instant.
 use Rattle.std.proofs.Common.{ℕ, Bool, false, ◌+◌, ◌≤◌, ◌≡◌, ℤ, List, [], ◌++◌, length, ap, sym, ◌∙◌, subst, arith}
+use Rattle.lucy_word.proofs.Lists.{front_empty, back_empty}
 use Rattle.lucy_lines.specs.Written.{LinesState}
 use Rattle.lucy_lines.specs.declared.output.OutputSpec.{OutputSpec}
 use Rattle.lucy_lines.specs.Outputs.{more_lines}
 use Rattle.lucy_text.specs.Outside.{SeenSink, Fails}
 use Rattle.lucy_lines.specs.Walks.{WalkState, next_lines, AreAt, AreWalked, Gathers, IsBetweenBlocks}
 use Rattle.lucy_lines.proofs.OutputLaws.{one_instant_on, more_lines-grow}
-use Rattle.lucy_lines.proofs.SinkLaws.{front_empty, back_empty, gathered_empty, fails_longer, gathers_more, gathered_fails}
+use Rattle.lucy_lines.proofs.SinkLaws.{gathered_empty, fails_longer, gathers_more, gathered_fails}
 use Rattle.lucy_lines.proofs.WalkLaws.{next_lines-is}
 
 -- there are lists enough where there are for all that is walked along

@@ -1,20 +1,12 @@
 -- Laws of texts that are written in pieces.
-use Rattle.std.proofs.Common.{IsTrue, Result, Ok, Err, OnErr, Bool, true, false, if◌then◌else◌, ℕ, ◌+◌, ◌≤◌, ◌≡◌, List, [], ◌∷◌, ◌++◌, length, take, refl, ap, sym, subst, ◌∙◌, arith, append_assoc, length-append}
+use Rattle.std.proofs.Common.{IsTrue, Bool, true, false, if◌then◌else◌, ℕ, ◌+◌, ◌≤◌, ◌≡◌, List, [], ◌++◌, length, take, refl, ap, sym, subst, ◌∙◌, arith, append_assoc, length-append}
 use Rattle.std.proofs.Math.Seq.{take-append-add}
 use Rattle.std.proofs.lemmas.List.{take-append-le}
+use Rattle.lucy_word.proofs.Lists.{front_empty, back_empty}
 use Rattle.lucy_text.specs.Outside.{appended, Rose, SeenSink, Writes, Fails}
 use Rattle.lucy_text.proofs.OutsideLaws.{appended-nil, appended_more}
 use Rattle.lucy_lines.specs.Written.{LinesState}
 use Rattle.lucy_lines.specs.Walks.{Gathers}
-
--- a text without bytes has no bytes in front
-pub front_empty : (a b : List ℕ) → a ++ b ≡ [] → a ≡ []
-front_empty [] b e = refl
-front_empty (x ∷ a) b e = cc
-
-pub back_empty : (a b : List ℕ) → a ++ b ≡ [] → b ≡ []
-back_empty [] b e = e
-back_empty (x ∷ a) b e = cc
 
 -- a sink that is as it was has no more bytes
 pub unwritten : (s : SeenSink) → Writes s s []
@@ -122,8 +114,3 @@ pub first_put : (clear new : LinesState) (room : ℕ) (line : List ℕ) (result 
 first_put clear new room line result is fits puts e =
     let some : length clear.bytes + length line ≤ clear.room = let n = ap (λ c. length c.bytes) is in let m = ap (λ c. c.room) is in omega arith in
     if_put result (clear.bytes ++ line) clear.bytes new.bytes e (puts some) ∙ ap (λ c. c.bytes ++ line) is
-
--- a fact of an answer that is an error
-pub on_err : {T E : Type 0} (result : Result T E) (P : Type 0) → P → OnErr result P
-on_err (Ok value) P holds = tt
-on_err (Err e) P holds = holds

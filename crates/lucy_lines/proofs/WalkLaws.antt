@@ -3,9 +3,11 @@ use Rattle.std.proofs.Common.{ℕ, suc, zero, ◌+◌, ◌-◌, ◌<◌, ◌≤�
 use Rattle.std.specs.List.{slice_get}
 use Rattle.std.proofs.lemmas.Option.{slice_get_within, slice_get-get_or, get_or_from_slice_get}
 use Rattle.std.proofs.lemmas.Fmt.{length_signed_le}
+use Rattle.std.proofs.lemmas.List.{drop-drop}
 use Rattle.lucy_word.specs.Bits.{Bits, bit_at, ones_to, one_if}
 use Rattle.lucy_word.proofs.BitsLaws.{ones_to-more}
 use Rattle.lucy_word.proofs.IndexLaws.{ones_to-rises}
+use Rattle.lucy_word.proofs.Lists.{get_set, get_set_other, front_empty}
 use Rattle.lucy_host.specs.declared.data_type.DataType.{DataType}
 use Rattle.lucy_host.specs.declared.data_type.DataType.TheVariants as kind
 use Rattle.lucy_lines.specs.Written.{LinesState, value_text, line_of}
@@ -13,21 +15,9 @@ use Rattle.lucy_lines.specs.declared.output.OutputSpec.{OutputSpec}
 use Rattle.lucy_lines.specs.Outputs.{line_with_value, value_after, instant_after}
 use Rattle.lucy_text.specs.Outside.{SeenSink, Fails}
 use Rattle.lucy_lines.specs.Walks.{WalkState, next_value, next_lines, IsStepped, AreStepped, AreSteppedTo, IsWalkedTo, AreAt, IsWalked, AreWalked, FitsRoom, FitRoom, Gathers}
-use Rattle.lucy_lines.proofs.SinkLaws.{front_empty, fails_longer, gathers_more, gathered_fails}
+use Rattle.lucy_lines.proofs.SinkLaws.{fails_longer, gathers_more, gathered_fails}
 
--- items of lists that were changed at one place, or have one more
-get-set_same : {A : Type 0} (xs : List A) (i : ℕ) (x : A) → i < length xs → slice_get (set xs i x) i ≡ Some x
-get-set_same [] i x lt = absurd (omega arith)
-get-set_same (y ∷ xs) zero x lt = refl
-get-set_same (y ∷ xs) (suc i) x lt = get-set_same xs i x (omega arith)
-
-get-set_other : {A : Type 0} (xs : List A) (i k : ℕ) (x : A) → (k ≡ i → ⊥) → slice_get (set xs i x) k ≡ slice_get xs k
-get-set_other [] i k x ne = refl
-get-set_other (y ∷ xs) zero zero x ne = absurd (ne refl)
-get-set_other (y ∷ xs) zero (suc k) x ne = refl
-get-set_other (y ∷ xs) (suc i) zero x ne = refl
-get-set_other (y ∷ xs) (suc i) (suc k) x ne = get-set_other xs i k x (λ e. ne (ap suc e))
-
+-- items of lists that have one more
 get-more : {A : Type 0} (xs : List A) (x : A) (k : ℕ) (y : A) → slice_get (xs ++ x ∷ []) k ≡ Some y → (slice_get xs k ≡ Some y) ⊎ ((k ≡ length xs) × (y ≡ x))
 get-more [] x zero y e = inr (refl, (cc))
 get-more [] x (suc k) y e = cc
@@ -38,15 +28,6 @@ get-drop : {A : Type 0} (xs : List A) (n : ℕ) → slice_get (drop n xs) 0 ≡ 
 get-drop xs zero = refl
 get-drop [] (suc n) = refl
 get-drop (x ∷ xs) (suc n) = get-drop xs n
-
-drop_nothing : {A : Type 0} (n : ℕ) → drop {A = A} n [] ≡ []
-drop_nothing zero = refl
-drop_nothing (suc n) = refl
-
-drop-drop : {A : Type 0} (xs : List A) (n m : ℕ) → drop m (drop n xs) ≡ drop (n + m) xs
-drop-drop xs zero m = let e : m ≡ 0 + m = omega arith in ap (λ k. drop k xs) e
-drop-drop [] (suc n) m = drop_nothing m ∙ sym (drop_nothing (suc n + m))
-drop-drop (x ∷ xs) (suc n) m = let e : suc (n + m) ≡ suc n + m = omega arith in drop-drop xs n m ∙ ap (λ k. drop k (x ∷ xs)) e
 
 -- lists of one length have items at the same places
 get-there : {A B : Type 0} (xs : List A) (ys : List B) (k : ℕ) (y : B) → length ys ≡ length xs → slice_get ys k ≡ Some y → (x : A) × (slice_get xs k ≡ Some x)
@@ -84,7 +65,7 @@ left_later before t o list w v le left step =
       at = at_later t o list w v left.at step;
       rest = step.rest
           ∙ ap (drop (one_if (bit_at w.bits 1))) left.rest
-          ∙ drop-drop list past (one_if (bit_at w.bits 1))
+          ∙ drop-drop (one_if (bit_at w.bits 1)) past list
           ∙ ap (λ bit. drop (past + one_if bit) list) (next_bit t o w left.at)
           ∙ ap (λ n. drop n list) (omega arith);
     }
@@ -226,7 +207,7 @@ stepped_here : (lists : List (List ℤ)) (items : List ℤ) (before now : List W
     slice_get before i ≡ Some w → slice_get before k ≡ Some x → slice_get (set now i v) k ≡ Some y → IsStepped items w v → IsStepped (get_or lists k []) x y
 stepped_here lists items before now i k w v x y here lt has at was is step =
     let old : Some w ≡ Some x = sym at ∙ ap (slice_get before) (sym here) ∙ was in
-    let new : Some v ≡ Some y = sym (get-set_same now i v lt) ∙ ap (slice_get (set now i v)) (sym here) ∙ is in
+    let new : Some v ≡ Some y = sym (get_set now i v lt) ∙ ap (slice_get (set now i v)) (sym here) ∙ is in
     let w_is : w ≡ x = cc in
     let v_is : v ≡ y = cc in
     let given : get_or lists k [] ≡ items = ap (λ n. get_or lists n []) here ∙ get_or_from_slice_get lists i items [] has in
@@ -240,10 +221,10 @@ pub one_more_stepped : (lists : List (List ℤ)) (items : List ℤ) (before now 
     slice_get before i ≡ Some w → IsStepped items w v → AreSteppedTo lists before now i → AreSteppedTo lists before (set now i v) (i + 1)
 one_more_stepped lists items before now i w v same has at step steps = record {
   stepped = λ k x y lt was is. elim (below_or k i lt) [
-    | inl below ↦ steps.stepped k x y below was (sym (get-set_other now i k v (λ e. absurd (omega arith))) ∙ is)
+    | inl below ↦ steps.stepped k x y below was (sym (get_set_other now i k v (λ e. absurd (omega arith))) ∙ is)
     | inr here ↦ stepped_here lists items before now i k w v x y here (omega (arith, slice_get_within before i w at)) has at was is step
   ];
-  others = λ k le. get-set_other now i k v (λ e. absurd (omega arith)) ∙ steps.others k (omega arith);
+  others = λ k le. get_set_other now i k v (λ e. absurd (omega arith)) ∙ steps.others k (omega arith);
 }
 
 -- and in the end all are one instant later
@@ -327,15 +308,15 @@ pub one_more_begun : (before now : List WalkState) (i : ℕ) (w v : WalkState) �
     ((k : ℕ) (u : WalkState) → k < i → slice_get before k ≡ Some u → slice_get now k ≡ Some (record u { place = 0 })) → ((k : ℕ) → i ≤ k → slice_get now k ≡ slice_get before k) →
     (k : ℕ) (u : WalkState) → k < i + 1 → slice_get before k ≡ Some u → slice_get (set now i v) k ≡ Some (record u { place = 0 })
 one_more_begun before now i w v there new begun others k u lt was = elim (below_or k i lt) [
-  | inl below ↦ get-set_other now i k v (λ e. absurd (omega arith)) ∙ begun k u below was
+  | inl below ↦ get_set_other now i k v (λ e. absurd (omega arith)) ∙ begun k u below was
   | inr here ↦ (
       let same : Some (get_or now i w) ≡ Some u = sym (slice_get-get_or now i w there) ∙ others i (omega arith) ∙ ap (slice_get before) (sym here) ∙ was in
       let alike : get_or now i w ≡ u = cc in
       let front : WalkState → WalkState = λ x. record x { place = 0 } in
-      ap (slice_get (set now i v)) here ∙ get-set_same now i v there ∙ ap (λ x. Some x) (new ∙ ap front alike)
+      ap (slice_get (set now i v)) here ∙ get_set now i v there ∙ ap (λ x. Some x) (new ∙ ap front alike)
       )
 ]
 
 pub others_more : (before now : List WalkState) (i : ℕ) (v : WalkState) → ((k : ℕ) → i ≤ k → slice_get now k ≡ slice_get before k) →
     (k : ℕ) → i + 1 ≤ k → slice_get (set now i v) k ≡ slice_get before k
-others_more before now i v others k le = get-set_other now i k v (λ e. absurd (omega arith)) ∙ others k (omega arith)
+others_more before now i v others k le = get_set_other now i k v (λ e. absurd (omega arith)) ∙ others k (omega arith)

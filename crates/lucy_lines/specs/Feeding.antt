@@ -1,8 +1,8 @@
 -- The items of an input, stream by stream, and why they stop before the input's end.
 use Rattle.std.specs.Prelude.{ℕ, ℤ, ◌≤◌, ◌≡◌, ◌⊎◌, Bool, true, false, nat_eq, List, [], ◌++◌, map, length, Option, Some, None, Result, Ok, Err}
 use Rattle.std.specs.List.{filter, range_with_len}
-use Rattle.lucy_word.specs.declared.error.OutOfMemory.{OutOfMemory}
-use Rattle.lucy_lines.specs.Cuts.{Held, ItemOf, Stop as Halt, At, Before, Cut, input_of}
+use Rattle.std.specs.declared.alloc.AllocError.{AllocError}
+use Rattle.lucy_lines.specs.Cuts.{Held, ItemOf, Stop as Halt, At, Before, Cut, whole_input}
 use Rattle.lucy_lines.specs.Reading.{most_read}
 use Rattle.lucy_lines.specs.declared.input.InputSpec.{InputSpec}
 use Rattle.lucy_lines.specs.declared.reader.TextFault.{TextFault}
@@ -39,13 +39,13 @@ StopsFor (Some fault) stop = (stop ≡ Drained) ⊎ (stop ≡ Open)
 
 -- the feed of the bytes taken, where reading stopped so
 pub record IsFeedOf (inputs : List InputSpec) (taken : List ℕ) (stop : ReadStop) (items : List ItemOf) (halt : Halt) (feed : Feed) : Type 0 where
-  pub cut : Cut inputs (is_closed stop) (input_of taken) items halt
+  pub cut : Cut inputs (is_closed stop) (whole_input taken) items halt
   pub lists : feed.items ≡ values_by_stream (length inputs) items
   pub fault : feed.stop ≡ fault_of stop halt
   pub stopped : StopsFor feed.stop stop
 
 -- what is answered where these bytes were taken and reading stopped so: their feed, or that memory ran out, where reading was given up
-abbrev pub IsFeed : List InputSpec → (taken : List ℕ) → ReadStop → Result Feed OutOfMemory → Type 0
+abbrev pub IsFeed : List InputSpec → (taken : List ℕ) → ReadStop → Result Feed AllocError → Type 0
 IsFeed inputs taken stop (Ok feed) = (items : List ItemOf) × (halt : Halt) × IsFeedOf inputs taken stop items halt feed
 IsFeed inputs taken stop (Err e) = stop ≡ Open
 
@@ -53,7 +53,7 @@ IsFeed inputs taken stop (Err e) = stop ≡ Open
 -- items.
 abbrev pub IsAskedWhile : (Wanting : List ItemOf → Type 0) → List InputSpec → (taken : List ℕ) → Type 0
 IsAskedWhile Wanting inputs taken = (taken ≡ []) ⊎ ((early late : List ℕ) × (items : List ItemOf) × (held : Held) × (taken ≡ early ++ late) × (length late ≤ most_read) ×
-    Cut inputs false (input_of early) items (Before held) × Wanting items)
+    Cut inputs false (whole_input early) items (Before held) × Wanting items)
 
 -- Bytes were asked for only as long as those taken before the last read refused no line.
 abbrev pub IsAsked : List InputSpec → (taken : List ℕ) → Type 0

@@ -4,14 +4,14 @@ use Rattle.lucy_text.specs.Outside.{SeenSource, GaveBytes, HasEnded, NoneFollows
 use Rattle.lucy_lines.specs.declared.input.InputSpec.{InputSpec}
 use Rattle.lucy_lines.specs.declared.reader.TextFault.{TextFault}
 use Rattle.lucy_lines.specs.Fronts.{most_bytes}
-use Rattle.lucy_lines.specs.Cuts.{Held, bytes_taken, ItemOf, with_more, Stop as Halt, Cut, input_of}
+use Rattle.lucy_lines.specs.Cuts.{Held, bytes_taken, ItemOf, with_more, Stop as Halt, Cut, whole_input}
 use Rattle.lucy_lines.specs.Reading.{ReaderState}
 use Rattle.lucy_lines.specs.Feeding.{IsAsked}
 
 -- A cut of what is held, with the bytes that are still to be taken, goes on behind these items, for which those bytes were taken.
 abbrev pub ExtendsCut : List InputSpec → List ItemOf → (taken : List ℕ) → Held → (closed : Bool) → Type 0
 ExtendsCut inputs items taken held closed = (shut : Bool) (late : List ℕ) (others : List ItemOf) (halt : Halt) → (closed ≡ true → (late ≡ []) × (shut ≡ true)) →
-    Cut inputs shut (with_more held late) others halt → Cut inputs shut (input_of (taken ++ late)) (items ++ others) halt
+    Cut inputs shut (with_more held late) others halt → Cut inputs shut (whole_input (taken ++ late)) (items ++ others) halt
 
 -- what holds of the bytes taken so far, whatever was answered
 pub record Behind (inputs : List InputSpec) (reader : ReaderState) (before after : SeenSource) (taken : List ℕ) : Type 0 where

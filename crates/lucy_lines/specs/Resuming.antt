@@ -4,7 +4,7 @@ use Rattle.std.specs.Prelude.{ℕ, ℤ, ◌<◌, ◌≤◌, ◌≡◌, ◌⊎◌
 use Rattle.lucy_lines.specs.declared.input.InputSpec.{InputSpec}
 use Rattle.lucy_lines.specs.declared.reader.TextFault.{TextFault}
 use Rattle.lucy_lines.specs.Fronts.{most_bytes}
-use Rattle.lucy_lines.specs.Cuts.{ItemOf, Stop as Halt, Cut, input_of}
+use Rattle.lucy_lines.specs.Cuts.{ItemOf, Stop as Halt, Cut, whole_input}
 use Rattle.lucy_lines.specs.Reading.{ReaderState}
 use Rattle.lucy_text.specs.Outside.{SeenSource}
 use Rattle.lucy_text.specs.Sources.{ReadStop, Open, Drained, Read}
@@ -38,7 +38,7 @@ AsksWhile Wanting inputs taken bytes = (bytes ≡ []) ⊎ IsAskedWhile Wanting i
 
 -- these items stand in front of those that the bytes taken have, where these are all that there are or not
 abbrev pub BeginCut : List InputSpec → (closed : Bool) → (taken : List ℕ) → List ItemOf → Type 0
-BeginCut inputs closed taken items = (others : List ItemOf) × (halt : Halt) × Cut inputs closed (input_of taken) (items ++ others) halt
+BeginCut inputs closed taken items = (others : List ItemOf) × (halt : Halt) × Cut inputs closed (whole_input taken) (items ++ others) halt
 
 -- Reading was given up, behind these items and perhaps others of the bytes taken. A last line without its line feed has an item only where the
 -- end was met.

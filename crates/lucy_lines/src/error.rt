@@ -32,16 +32,6 @@ impl<T: Drop> From<AllocFailed<T>> for OutputError {
     }
 }
 
-impl From<lucy_word::OutOfMemory> for OutputError {
-    ghost use Rattle.lucy_lines.specs.declared.error.OutputError.TheVariants.{OutOfMemory};
-
-    ghost from_gives = { λ _ e. e ≡ OutOfMemory };
-
-    fn from(_: lucy_word::OutOfMemory) -> Self {
-        OutputError::OutOfMemory
-    }
-}
-
 impl From<Failed> for OutputError {
     ghost use Rattle.lucy_lines.specs.declared.error.OutputError.TheVariants as error;
 

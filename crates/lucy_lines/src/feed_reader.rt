@@ -15,8 +15,7 @@ use crate::input::InputSpec;
 use crate::reader::{InputReader, Line, TextFault};
 use lucy_host::Inputs;
 use lucy_text::Source;
-use lucy_word::OutOfMemory;
-use std::alloc::Global;
+use std::alloc::{AllocError, Global};
 use std::marker::Model;
 
 /// Reads an input in pieces: up to as many items of each stream as are wanted, and on from there when asked again. What was
@@ -46,7 +45,7 @@ impl Model for FeedReader {
 }
 
 // So many counts of 0.
-fn no_counts(alloc: Global, streams: usize) -> Result<Vec<u64>, OutOfMemory>
+fn no_counts(alloc: Global, streams: usize) -> Result<Vec<u64>, AllocError>
     ensures many { IfOk result (λ counts. length counts.items ≡ streams) }
     ensures none { IfOk result (λ counts. (i : ℕ) → slice_index_or counts.items i 0 ≡ 0) }
 {
@@ -59,7 +58,7 @@ fn no_counts(alloc: Global, streams: usize) -> Result<Vec<u64>, OutOfMemory>
 
 impl FeedReader {
     /// A reader that has read nothing, of fewer than 2^32 inputs.
-    pub fn new(alloc: Global, inputs: Vec<InputSpec>) -> Result<FeedReader, OutOfMemory>
+    pub fn new(alloc: Global, inputs: Vec<InputSpec>) -> Result<FeedReader, AllocError>
         requires { length inputs.items < 2 ^ 32 }
         ensures begun { IfOk result (λ r. (source : SeenSource) → HasRead inputs.items source source r [] []) }
         ensures fresh { IfOk result (λ r. AreFresh inputs.items r []) }
@@ -138,7 +137,7 @@ impl FeedReader {
     }
 
     // Reads a line and keeps its item, if it has one.
-    fn keep_item<I: Source>(&mut self, alloc: Global, source: &mut I) -> Result<(), OutOfMemory>
+    fn keep_item<I: Source>(&mut self, alloc: Global, source: &mut I) -> Result<(), AllocError>
         requires { self.old.reader.ended ≡ false }
         ensures reads { OnOk result (ReadsWhile (λ inputs items. AreCounts inputs self.old.counts items) (I.seen source.old) (I.seen source.new) self.old self.new) }
         ensures gives_up { OnErr result (GivesUp (I.seen source.old) (I.seen source.new) self.old) }
@@ -148,10 +147,7 @@ impl FeedReader {
         ensures count { (I.seen source.old).faults ≤ (I.seen source.new).faults }
     {
         match self.next_item(source) {
-            Some((stream, value)) => match self.fresh.push(alloc, stream, value) {
-                Ok(()) => Ok(()),
-                Err(_) => Err(OutOfMemory),
-            },
+            Some((stream, value)) => self.fresh.push(alloc, stream, value),
             None => Ok(()),
         }
     }
@@ -172,7 +168,7 @@ impl FeedReader {
         stream: usize,
         least: u64,
         source: &mut I,
-    ) -> Result<(), OutOfMemory>
+    ) -> Result<(), AllocError>
         requires { stream < length self.old.reader.inputs }
         ensures reads { OnOk result (ReadsWhile (λ inputs items. length (slice_index_or (values_by_stream (length inputs) items) stream []) < least) (I.seen source.old) (I.seen source.new) self.old self.new) }
         ensures gives_up { OnErr result (GivesUp (I.seen source.old) (I.seen source.new) self.old) }
@@ -196,7 +192,7 @@ impl FeedReader {
         alloc: Global,
         wanted: &[u64],
         source: &mut I,
-    ) -> Result<(), OutOfMemory>
+    ) -> Result<(), AllocError>
         requires { length wanted.now ≡ length self.old.reader.inputs }
         ensures reads { OnOk result (ReadsWhile (IsShort wanted.now) (I.seen source.old) (I.seen source.new) self.old self.new) }
         ensures gives_up { OnErr result (GivesUp (I.seen source.old) (I.seen source.new) self.old) }
@@ -213,7 +209,7 @@ impl FeedReader {
     }
 
     /// Reads on until reading stops, and keeps all values. Where memory runs out, it is as with `read_to`.
-    pub fn read_on<I: Source>(&mut self, alloc: Global, source: &mut I) -> Result<(), OutOfMemory>
+    pub fn read_on<I: Source>(&mut self, alloc: Global, source: &mut I) -> Result<(), AllocError>
         ensures reads { OnOk result (ReadsMore (I.seen source.old) (I.seen source.new) self.old self.new) }
         ensures gives_up { OnErr result (GivesUp (I.seen source.old) (I.seen source.new) self.old) }
         ensures stopped { OnOk result (self.new.reader.ended ≡ true) }
@@ -244,7 +240,7 @@ impl FeedReader {
     }
 
     /// The values count as carried away: each stream's list is empty then, and the counts stay. A refusal changes nothing.
-    pub fn carry_away(&mut self, alloc: Global) -> Result<(), OutOfMemory>
+    pub fn carry_away(&mut self, alloc: Global) -> Result<(), AllocError>
         ensures ok { IfOk result (λ _. self.new ≡ record self.old { fresh = values_by_stream (length self.old.reader.inputs) [] }) }
         ensures refused { OnErr result (self.new ≡ self.old) }
     {

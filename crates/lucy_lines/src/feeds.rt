@@ -9,8 +9,7 @@ use crate::input::InputSpec;
 use crate::reader::TextFault;
 use lucy_host::Inputs;
 use lucy_text::Source;
-use lucy_word::OutOfMemory;
-use std::alloc::Global;
+use std::alloc::{AllocError, Global};
 
 /// The items of an input, and why they stop before the input's end.
 #[derive(Drop)]
@@ -23,16 +22,13 @@ pub struct Feed {
 }
 
 /// So many lists, fewer than 2^32, without an item.
-pub fn empty_lists(alloc: Global, streams: usize) -> Result<Inputs, OutOfMemory>
+pub fn empty_lists(alloc: Global, streams: usize) -> Result<Inputs, AllocError>
     requires { streams < 2 ^ 32 }
     ensures { IfOk result (λ lists. lists ≡ values_by_stream streams []) }
 {
     let mut lists = Inputs::new(alloc);
     for _ in 0..streams {
-        match lists.add_list(alloc) {
-            Ok(()) => {}
-            Err(_) => return Err(OutOfMemory),
-        }
+        lists.add_list(alloc)?;
     }
     Ok(lists)
 }
@@ -43,7 +39,7 @@ pub fn read_feed<I: Source>(
     alloc: Global,
     inputs: Vec<InputSpec>,
     source: &mut I,
-) -> Result<Feed, OutOfMemory>
+) -> Result<Feed, AllocError>
     requires { length inputs.items < 2 ^ 32 }
     ensures fed { (taken : List ℕ) × (stop : ReadStop) × Read most_bytes (I.seen source.old) (I.seen source.new)
         taken stop × IsAsked inputs.items taken × IsFeed inputs.items taken stop result }

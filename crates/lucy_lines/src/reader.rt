@@ -11,8 +11,7 @@ use crate::buffer::{Buffer, READ};
 use crate::front::{Front, front_at, most_bytes};
 use crate::kind::{Kind, kind_of};
 use lucy_text::{Failed, Source};
-use lucy_word::OutOfMemory;
-use std::alloc::Global;
+use std::alloc::{AllocError, Global};
 use std::marker::Model;
 
 /// What an input line gives.
@@ -95,7 +94,7 @@ impl Model for InputReader {
 
 impl InputReader {
     /// A reader that has read nothing, of fewer than 2^32 inputs.
-    pub fn new(alloc: Global, inputs: Vec<InputSpec>) -> Result<InputReader, OutOfMemory>
+    pub fn new(alloc: Global, inputs: Vec<InputSpec>) -> Result<InputReader, AllocError>
         requires { length inputs.items < 2 ^ 32 }
         ensures { IfOk result (λ r. r ≡ new_reader inputs.items) }
     {

@@ -4,8 +4,7 @@ ghost use Rattle.lucy_lines.specs.Written.{LinesState, line_with, value_text, li
 
 use itoa::Buffer;
 use lucy_host::DataType;
-use lucy_word::OutOfMemory;
-use std::alloc::Global;
+use std::alloc::{AllocError, Global};
 use std::marker::Model;
 
 // Puts a line behind the bytes, which have the room for it.
@@ -29,7 +28,7 @@ fn truth(value: i64) -> &'static [u8]
 }
 
 // A line of its own.
-fn line(alloc: Global, name: &[u8], text: &[u8]) -> Result<Vec<u8>, OutOfMemory>
+fn line(alloc: Global, name: &[u8], text: &[u8]) -> Result<Vec<u8>, AllocError>
     requires { length text.now ≤ 40 }
     ensures { IfOk result (λ line. line.items ≡ line_with name.now text.now) }
 {
@@ -44,7 +43,7 @@ pub fn value_line(
     name: &[u8],
     holds: DataType,
     value: i64,
-) -> Result<Vec<u8>, OutOfMemory>
+) -> Result<Vec<u8>, AllocError>
     ensures { IfOk result (λ line. line.items ≡ line_of name.now holds value) }
 {
     match holds {
@@ -71,7 +70,7 @@ impl Model for ValueLines {
 
 impl ValueLines {
     /// No line yet, and room for so many bytes.
-    pub fn new(alloc: Global, room: usize) -> Result<ValueLines, OutOfMemory>
+    pub fn new(alloc: Global, room: usize) -> Result<ValueLines, AllocError>
         ensures { IfOk result (λ lines. lines ≡ record { bytes = []; room = room }) }
     {
         Ok(ValueLines {

@@ -5,7 +5,7 @@ use Rattle.std.proofs.lemmas.List.{append-nil}
 use Rattle.std.proofs.lemmas.Option.{same_Some}
 use Rattle.lucy_text.proofs.OutsideLaws.{followed, AtEnd}
 use Rattle.lucy_text.specs.Outside.{SeenSource}
-use Rattle.lucy_lines.specs.Cuts.{ItemOf, Stop as Halt, At, Before, Cut, input_of}
+use Rattle.lucy_lines.specs.Cuts.{ItemOf, Stop as Halt, At, Before, Cut, whole_input}
 use Rattle.lucy_lines.specs.CutLaws.{CutInPieces}
 use Rattle.lucy_lines.specs.Fronts.{most_bytes}
 use Rattle.lucy_lines.specs.declared.input.InputSpec.{InputSpec}
@@ -41,9 +41,9 @@ module _ (law : CutInPieces) (inputs : List InputSpec) (input rest taken : List 
       IsFeedOf inputs taken Open items halt feed → IsFeedOf inputs input Drained items halt feed
   open_fed fault items (Before h) feed all stops e is = (let no : None ≡ Some fault = sym is.fault ∙ e in cc)
   open_fed fault items (At f) feed all stops e is =
-      let P : List ℕ → Type 0 = λ t. Cut inputs true (input_of t) items (At f) in
+      let P : List ℕ → Type 0 = λ t. Cut inputs true (whole_input t) items (At f) in
       let Q : Option TextFault → Type 0 = λ o. StopsFor o Drained in record {
-        cut = subst P all ((law inputs true (input_of taken) rest items).0 f is.cut);
+        cut = subst P all ((law inputs true (whole_input taken) rest items).0 f is.cut);
         lists = is.lists;
         fault = is.fault;
         stopped = subst Q (sym e) stops;

@@ -1,9 +1,9 @@
 -- The course of the generated program, from its begin to its end, and what is owed of it.
-use Rattle.std.proofs.Common.{ℕ, ◌≡◌, ◌⊎◌, List, [], ◌∷◌, ◌++◌, None, length, ap, sym, refl, ◌∙◌, subst, inl, inr, arith}
+use Rattle.std.proofs.Common.{ℕ, ◌≡◌, ◌⊎◌, List, [], ◌++◌, None, length, ap, sym, refl, ◌∙◌, subst, inl, inr}
 use Rattle.std.specs.Prelude.{ℤ, Result, Ok, Err, IfOk, IfErr}
+use Rattle.std.proofs.lemmas.List.{nil_from_length}
 use Rattle.lucy_host.specs.declared.kind.HostKind.{HostKind}
 use Rattle.lucy_lines.specs.CutLaws.{CutInPieces}
-use Rattle.lucy_lines.specs.declared.input.InputSpec.{InputSpec}
 use Rattle.lucy_text.specs.Outside.{SeenSource}
 use Rattle.lucy_clock.specs.declared.node_clock.NodeClock.{NodeClock}
 use Rattle.lucy_program.specs.declared.accepted.Accepted.{Accepted}
@@ -27,10 +27,6 @@ nothing (ending.Input fault) text no_end = refl
 nothing (ending.Limit limit) text no_end = refl
 nothing ending.WriteFault text no_end = refl
 nothing ending.OutOfMemory text no_end = refl
-
-none_of : (inputs : List InputSpec) → length inputs ≡ 0 → inputs ≡ []
-none_of [] e = refl
-none_of (i ∷ inputs) e = absurd (omega arith)
 
 -- a course that was run on is still under way, with the words that it had
 module _ (before now : SeenSource) (kinds : List HostKind) (course last : CourseView) (first : IsBeforeFirst kinds before course) (count : ℕ) (sum : ℤ)
@@ -68,7 +64,7 @@ module _ (kinds : List HostKind) (a : Accepted) where
     -- a main with inputs has words of them
     pub some_words : (a.inputs.items ≡ [] → ⊥) → course.words ≡ [] → ⊥
     some_words some none =
-        some (none_of a.inputs.items (can.inputs ∙ sym (params_count a.placed.nodes a.clocks.items) ∙ sym (ap length (begun_along (steady [])).words) ∙ ap length none))
+        some (nil_from_length a.inputs.items (can.inputs ∙ sym (params_count a.placed.nodes a.clocks.items) ∙ sym (ap length (begun_along (steady [])).words) ∙ ap length none))
 
     -- what its run is, once it is over
     pub made_run : CutInPieces → FirstAgrees → (a.inputs.items ≡ [] → ⊥) → (instants count : ℕ) (sum : ℤ) (end : Ending) → RunsOut course instants count sum end →

@@ -9,9 +9,8 @@ use crate::laws::first_goes_on;
 use lucy_host::Host;
 use lucy_run::Course;
 use lucy_text::Source;
-use lucy_word::OutOfMemory;
 use lucy_worker::Gate;
-use std::alloc::Global;
+use std::alloc::{AllocError, Global};
 use std::thread::Threads;
 
 /// Runs a course from its first block to its last: the tally of main's first result, where it has one.
@@ -27,7 +26,7 @@ pub(crate) fn tell<
     gate: &G,
     course: &mut Course<'_>,
     source: &mut I,
-) -> Result<Tally, OutOfMemory>
+) -> Result<Tally, AllocError>
     requires serves { Serves F.pre F.post host.now }
     requires first { IsBeforeFirst (kinds_of (lent host.now)) (I.seen source.old) course.old }
     ensures tells { IfOk result (λ tally. TellsFirstResult (I.seen source.old) (I.seen source.new) course.old course.new tally.count tally.sum) }

@@ -5,7 +5,6 @@ ghost use Rattle.lucy_word.specs.declared.limit.Limit.TheVariants as limit;
 ghost use Rattle.lucy_make.specs.Figures as spec;
 
 use lucy_net::{Net, RingSpec};
-use lucy_word::OutOfMemory;
 use std::alloc::{AllocError, Global};
 
 /// How many actors, rings and slots of rings a net has.
@@ -102,7 +101,7 @@ pub(crate) fn print(
     counts: Counts,
     instants: u64,
     tally: Tally,
-) -> Result<Vec<u8>, OutOfMemory>
+) -> Result<Vec<u8>, AllocError>
     ensures { IfOk result (λ v. v.items ≡ spec.net_lines stages counts.actors counts.rings counts.slots ++ spec.run_lines instants tally.count tally.sum) }
 {
     let run = run_lines(alloc, instants, tally)?;

@@ -3,7 +3,6 @@ ghost use Rattle.std.specs.Prelude.{◌≡◌, ◌≤◌, ◌-◌, ◌%◌, ◌=
 ghost use Rattle.std.specs.Fmt.{decimal};
 ghost use Rattle.lucy_make.specs.Text as spec;
 
-use lucy_word::OutOfMemory;
 use std::alloc::{AllocError, Global};
 
 // The stream on which a stage stands.
@@ -50,7 +49,7 @@ fn stage_line(alloc: Global, stage: u64) -> Result<String, AllocError>
 }
 
 // Adds the line of a stage.
-fn add_line(alloc: Global, stage: u64, text: &mut Vec<u8>) -> Result<(), OutOfMemory>
+fn add_line(alloc: Global, stage: u64, text: &mut Vec<u8>) -> Result<(), AllocError>
     requires { (1 ≤ stage) × (stage ≤ 256) }
     ensures { OnOk result (text.new.items ≡ text.old.items ++ spec.stage_line stage) }
 {
@@ -60,7 +59,7 @@ fn add_line(alloc: Global, stage: u64, text: &mut Vec<u8>) -> Result<(), OutOfMe
 }
 
 /// The program of so many stages, from 1 to 256: one node with a stream for each stage, of which the last is its result.
-pub fn made_text(alloc: Global, stages: u64) -> Result<Vec<u8>, OutOfMemory>
+pub fn made_text(alloc: Global, stages: u64) -> Result<Vec<u8>, AllocError>
     requires { (1 ≤ stages) × (stages ≤ 256) }
     ensures { IfOk result (λ v. v.items ≡ spec.made_text stages) }
 {

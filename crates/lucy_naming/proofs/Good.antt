@@ -64,6 +64,3 @@ pub record Setting (w : Within) (above : List PlacedNode) (n : PlacedNode) (cs :
 -- what stands at a number stands at a place
 pub is_place : (n : PlacedNode) (p : ℕ) (e : PlaceEntry) → at_one n.places p ≡ Some e → IsPlace n p
 is_place n p e g = let h = one_within n.places p e g in (omega (arith, h.0), omega (arith, h.1))
-
-pub named_place : (n : PlacedNode) (p : ℕ) → IsNamed n p → IsPlace n p
-named_place n p h = is_place n p h.0 h.2

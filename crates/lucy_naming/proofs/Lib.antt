@@ -1,6 +1,5 @@
 pub mod TextLaws
 pub mod VerdictLaws
-pub mod TreeLaws
 pub mod PhraseLaws
 pub mod DraftLaws
 pub mod PartsLaws
@@ -16,12 +15,12 @@ mod BoundLaws
 mod CallLaws
 mod ShapeLaws
 mod Good
-mod OwnPlaces
+pub mod OwnPlaces
 mod ProperPhrases
 mod NodeParts
 pub mod NodeFaults
-mod NameLaws
-mod ResultLaws
+pub mod NameLaws
+pub mod ResultLaws
 mod ProperNodes
 pub mod ProperPrograms
 pub mod NodesLaws

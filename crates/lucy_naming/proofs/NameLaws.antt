@@ -1,11 +1,13 @@
 -- No two places of a node without faults have one name.
-use Rattle.std.proofs.Common.{◌≡◌, ◌+◌, ◌||◌, ℕ, zero, suc, Bool, true, false, List, [], ◌∷◌, ◌++◌, map, Option, Some, None, slice_get, refl, ap, sym, ◌∙◌, append_assoc}
+use Rattle.std.proofs.Common.{◌≡◌, ◌+◌, ℕ, zero, suc, true, false, List, [], ◌∷◌, ◌++◌, map, Option, Some, None, slice_get, refl, ap, sym, ◌∙◌, append_assoc}
 use Rattle.std.specs.List.{AllByRecursion}
 use Rattle.std.proofs.lemmas.Cmp.{nat_list_eq_equiv}
 use Rattle.std.proofs.lemmas.List.{map-append}
 use Rattle.std.proofs.lemmas.List.Folds.{list_any-append}
 use Rattle.std.proofs.lemmas.Option.{slice_get-map}
 use Rattle.std.specs.Prelude.{option_map}
+use Rattle.std.proofs.lemmas.Bool.{or_parts}
+use Rattle.lucy_word.proofs.Lists.{front_empty, back_empty}
 use Rattle.lucy_host.specs.Operators.{Operator}
 use Rattle.lucy_tree.specs.declared.span.Name.{Name}
 use Rattle.lucy_tree.specs.declared.decl.Decl.{Decl}
@@ -20,7 +22,7 @@ use Rattle.lucy_naming.specs.Numbering.{Next, past, inside, number, numbers, ent
 use Rattle.lucy_naming.specs.Places.{Known, results_from, declared_entry, left_entries}
 use Rattle.lucy_naming.specs.Nodes.{past_def, defined, rights, first_next}
 use Rattle.lucy_place.specs.Proper.{AreDistinct}
-use Rattle.lucy_naming.proofs.VerdictLaws.{none_front, none_back, is_new}
+use Rattle.lucy_naming.proofs.VerdictLaws.{is_new}
 use Rattle.lucy_naming.proofs.NodeFaults.{streams_faultless}
 use Rattle.lucy_naming.proofs.NodeParts.{k, n, ps, ds, rs}
 
@@ -94,29 +96,24 @@ stream_at [] es i a nameless h = absurd (no_name es i a nameless h)
 stream_at (t ∷ ns) es zero a nameless h = cc
 stream_at (t ∷ ns) es (suc i) a nameless h = stream_at ns es i a nameless h
 
--- streams whose names do not repeat are apart
-neither : (a b : Bool) → (a || b) ≡ false → (a ≡ false) × (b ≡ false)
-neither true b h = cc
-neither false true h = cc
-neither false false h = (refl, refl)
-
+-- what is not among some names and one more is among neither
 pub behind_one : (before : List (List ℕ)) (text own : List ℕ) → is_in (before ++ own ∷ []) text ≡ false → (is_in before text ≡ false) × (is_text text own ≡ false)
 behind_one before text own h =
-    let both = neither (is_in before text) (is_in (own ∷ []) text) (sym (list_any-append (is_text text) before (own ∷ [])) ∙ h) in
-    (both.0, (neither (is_text text own) false both.1).0)
+    let both = or_parts (is_in before text) (is_in (own ∷ []) text) (sym (list_any-append (is_text text) before (own ∷ [])) ∙ h) in
+    (both.0, (or_parts (is_text text own) false both.1).0)
 
 not_before : (before : List (List ℕ)) (ns : List Name) (j : ℕ) (b : Name) → repeats before ns ≡ [] → slice_get ns j ≡ Some b → is_in before b.text ≡ false
 not_before before [] j b new h = cc
 not_before before (t ∷ ns) zero b new h =
     let same : t ≡ b = cc in
-    ap (λ (x : Name). is_in before x.text) (sym same) ∙ is_new _ _ (none_front (repeat before t) (repeats (before ++ t.text ∷ []) ns) new)
+    ap (λ (x : Name). is_in before x.text) (sym same) ∙ is_new _ _ (front_empty (repeat before t) (repeats (before ++ t.text ∷ []) ns) new)
 not_before before (t ∷ ns) (suc j) b new h =
-    (behind_one before b.text t.text (not_before (before ++ t.text ∷ []) ns j b (none_back (repeat before t) (repeats (before ++ t.text ∷ []) ns) new) h)).0
+    (behind_one before b.text t.text (not_before (before ++ t.text ∷ []) ns j b (back_empty (repeat before t) (repeats (before ++ t.text ∷ []) ns) new) h)).0
 
 -- a name is not that of a later one
 apart : (before : List (List ℕ)) (ns : List Name) (t : Name) (j : ℕ) (b : Name) → repeats before (t ∷ ns) ≡ [] → slice_get ns j ≡ Some b → t.text ≡ b.text → ⊥
 apart before ns t j b new h same =
-    let other = (behind_one before b.text t.text (not_before (before ++ t.text ∷ []) ns j b (none_back (repeat before t) (repeats (before ++ t.text ∷ []) ns) new) h)).1 in
+    let other = (behind_one before b.text t.text (not_before (before ++ t.text ∷ []) ns j b (back_empty (repeat before t) (repeats (before ++ t.text ∷ []) ns) new) h)).1 in
     let own : is_text b.text t.text ≡ true = ap (is_text b.text) same ∙ nat_list_eq_equiv.refl b.text in
     cc
 
@@ -126,7 +123,7 @@ one_stream before (t ∷ ns) zero zero a b new g h same = refl
 one_stream before (t ∷ ns) zero (suc j) a b new g h same = let e : t ≡ a = cc in absurd (apart before ns t j b new h (ap (λ (x : Name). x.text) e ∙ same))
 one_stream before (t ∷ ns) (suc i) zero a b new g h same = let e : t ≡ b = cc in absurd (apart before ns t i a new g (ap (λ (x : Name). x.text) e ∙ sym same))
 one_stream before (t ∷ ns) (suc i) (suc j) a b new g h same =
-    ap suc (one_stream (before ++ t.text ∷ []) ns i j a b (none_back (repeat before t) (repeats (before ++ t.text ∷ []) ns) new) g h same)
+    ap suc (one_stream (before ++ t.text ∷ []) ns i j a b (back_empty (repeat before t) (repeats (before ++ t.text ∷ []) ns) new) g h same)
 
 module _ (ops : List Operator) (all above : ProgramTree) (t : NodeTree) (clean : node_faults ops all above t ≡ []) where
   names_are : names_of (n ops all above t).places ≡ map Some (streams t) ++ names_of (rs ops all above t)

@@ -3,6 +3,7 @@ use Rattle.std.proofs.Common.{◌≡◌, ◌≤◌, ◌++◌, ℕ, true, false, 
 use Rattle.std.proofs.lemmas.Bool.{cases_lt}
 use Rattle.std.proofs.lemmas.Bool.Decides.{nat_tests}
 use Rattle.lucy_word.specs.declared.limit.Limit.TheVariants as limit
+use Rattle.lucy_word.proofs.Lists.{front_empty, back_empty}
 use Rattle.lucy_host.specs.Operators.{Operator}
 use Rattle.lucy_tree.specs.View.{NodeTree, ProgramTree}
 use Rattle.lucy_naming.specs.declared.error.NameError.{NameError}
@@ -15,7 +16,7 @@ use Rattle.lucy_naming.specs.Places.{as_placed}
 use Rattle.lucy_naming.specs.Numbering.{node_rooms}
 use Rattle.lucy_naming.specs.Placing.{TellsFirstFault}
 use Rattle.lucy_naming.specs.Views.{inner_faults, text_of}
-use Rattle.lucy_naming.proofs.VerdictLaws.{none_front, none_back, tells_front, tells_back, all_faultless}
+use Rattle.lucy_naming.proofs.VerdictLaws.{tells_front, tells_back, all_faultless}
 use Rattle.lucy_naming.proofs.OwnPlaces.{unless_holds}
 use Rattle.lucy_naming.proofs.RoomLaws.{length_placed}
 
@@ -101,18 +102,18 @@ module _ (ops : List Operator) (all above : ProgramTree) (t : NodeTree) (none : 
   rooms_fault = unless (not (nat_lt most_places (length (as_placed ops above t).places))) (TooMany limit.Places)
 
   pub streams_faultless : repeats [] (streams t) ≡ []
-  streams_faultless = none_front _ _ (none_back _ _ none)
+  streams_faultless = front_empty _ _ (back_empty _ _ none)
 
   after_streams : def_faults (record { operators = ops; all = all; above = above; streams = texts }) t.defs ++ (result_faults texts [] t.results ++ rooms_fault) ≡ []
-  after_streams = none_back _ _ (none_back _ _ none)
+  after_streams = back_empty _ _ (back_empty _ _ none)
 
   pub defs_faultless : def_faults (record { operators = ops; all = all; above = above; streams = texts }) t.defs ≡ []
-  defs_faultless = none_front _ _ after_streams
+  defs_faultless = front_empty _ _ after_streams
 
   pub results_faultless : result_faults texts [] t.results ≡ []
-  results_faultless = none_front _ _ (none_back _ _ after_streams)
+  results_faultless = front_empty _ _ (back_empty _ _ after_streams)
 
   pub rooms_few : node_rooms t ≤ most_places
   rooms_few =
-      let few = few_rooms most_places (length (as_placed ops above t).places) (unless_holds _ _ (none_back _ _ (none_back _ _ after_streams))) in
+      let few = few_rooms most_places (length (as_placed ops above t).places) (unless_holds _ _ (back_empty _ _ (back_empty _ _ after_streams))) in
       subst (λ n. n ≤ most_places) (length_placed ops above t) few

@@ -18,6 +18,7 @@ use Rattle.lucy_tree.specs.Tree.{Tree, operator, host, sampled, merged, followed
 use Rattle.lucy_tree.specs.View.{tree_of, expr_list}
 use Rattle.lucy_tree.specs.Shaped.{IsShaped}
 use Rattle.lucy_tree.proofs.expr.Expr.TheLaws.{the_size}
+use Rattle.lucy_tree.proofs.Trees.{tree_sampled, tree_merged, tree_followed, tree_buffered, tree_call, tree_operator, tree_host}
 use Rattle.lucy_naming.specs.declared.draft.Draft.{Draft}
 use Rattle.lucy_place.specs.declared.entry.PlaceKind.{PlaceKind}
 use Rattle.lucy_naming.specs.Phrases.{Called, Phrase, Phrases, name, headed, none, and, phrase_of, expr_phrase, expr_phrases}
@@ -26,7 +27,6 @@ use Rattle.lucy_naming.specs.Numbering.{Next, past, past_all, all_bounds, entrie
 use Rattle.lucy_naming.specs.Places.{Known, own_bounds, stream_place}
 use Rattle.lucy_naming.specs.Drafts.{next_of, IsPlain, IsSingle, IsSmall, Draws, DrawsAll, phrase_operands, kind_of, buffers_of}
 use Rattle.lucy_naming.proofs.DraftLaws.{AllDrawn, next_same}
-use Rattle.lucy_naming.proofs.TreeLaws.{tree_sampled, tree_merged, tree_followed, tree_buffered, tree_called, tree_operated, tree_hosted}
 use Rattle.lucy_naming.proofs.PhraseLaws.{phrase_literal, phrase_variable, phrase_merged, phrase_called, phrase_operated, phrase_hosted}
 
 -- operands are less deep than their form
@@ -53,17 +53,17 @@ buffered_size b operand s = search (rules, the_lemmas)
 
 -- the trees of forms whose operands stand behind references
 pub is_operated : {e : Expr} {es : List Expr} (o : ops.Op) (args : Exprs) (s : Span) → e ≡ Op o args s → es ≡ expr_list args → tree_of e ≡ operator o (trees_of (map tree_of es)) s
-is_operated o args s is at = ap tree_of is ∙ tree_operated o args s ∙ ap (λ (l : List Expr). operator o (trees_of (map tree_of l)) s) (sym at)
+is_operated o args s is at = ap tree_of is ∙ tree_operator o args s ∙ ap (λ (l : List Expr). operator o (trees_of (map tree_of l)) s) (sym at)
 
 pub is_hosted : {e : Expr} {es : List Expr} (n : Name) (args : Exprs) → e ≡ Host n args → es ≡ expr_list args → tree_of e ≡ host n (trees_of (map tree_of es))
-is_hosted n args is at = ap tree_of is ∙ tree_hosted n args ∙ ap (λ (l : List Expr). host n (trees_of (map tree_of l))) (sym at)
+is_hosted n args is at = ap tree_of is ∙ tree_host n args ∙ ap (λ (l : List Expr). host n (trees_of (map tree_of l))) (sym at)
 
 pub is_merged : {e x y : Expr} (w : Bits) (a b : Box Expr Global) (s : Span) → e ≡ Merge w a b s → x ≡ a.value → y ≡ b.value → tree_of e ≡ merged w (tree_of x) (tree_of y) s
 is_merged {x = x} w a b s is one zero =
     ap tree_of is ∙ tree_merged w a b s ∙ ap (λ (z : Expr). merged w (tree_of z) (tree_of b.value) s) (sym one) ∙ ap (λ (z : Expr). merged w (tree_of x) (tree_of z) s) (sym zero)
 
 pub is_called : {e : Expr} {es : List Expr} (n : Name) (b : Option Bits) (args : Exprs) → e ≡ Call n b args → es ≡ expr_list args → tree_of e ≡ call n b (trees_of (map tree_of es))
-is_called n b args is at = ap tree_of is ∙ tree_called n b args ∙ ap (λ (l : List Expr). call n b (trees_of (map tree_of l))) (sym at)
+is_called n b args is at = ap tree_of is ∙ tree_call n b args ∙ ap (λ (l : List Expr). call n b (trees_of (map tree_of l))) (sym at)
 
 -- and that their operands are less deep
 pub operated_smaller : {e : Expr} {es : List Expr} (o : ops.Op) (args : Exprs) (s : Span) → e ≡ Op o args s → es ≡ expr_list args → most the_size es < the_size e

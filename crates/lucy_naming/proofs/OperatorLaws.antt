@@ -6,6 +6,7 @@ use Rattle.std.specs.Option.{unwrap_or}
 use Rattle.std.specs.List.{AllByRecursion}
 use Rattle.std.proofs.lemmas.List.{length-map}
 use Rattle.std.proofs.lemmas.List.Quantifiers.{position-Some}
+use Rattle.lucy_word.proofs.Lists.{front_empty, back_empty}
 use Rattle.lucy_host.specs.Operators.{Operator, names_of, operator_number}
 use Rattle.lucy_tree.specs.declared.decl.Decl.{Decl}
 use Rattle.lucy_tree.specs.View.{DefTree, NodeTree, ProgramTree}
@@ -19,7 +20,6 @@ use Rattle.lucy_naming.specs.Numbering.{Next, past, inside, number, numbers, ent
 use Rattle.lucy_naming.specs.Places.{Known, results_from, declared_entry, left_entries}
 use Rattle.lucy_naming.specs.Nodes.{past_def, defined, rights, first_next, placed_nodes}
 use Rattle.lucy_place.specs.Proper.{Stands, HaveOperators}
-use Rattle.lucy_naming.proofs.VerdictLaws.{none_front, none_back}
 use Rattle.lucy_naming.proofs.Good.{known_of}
 use Rattle.lucy_naming.proofs.OwnPlaces.{unless_holds}
 use Rattle.lucy_naming.proofs.NodeFaults.{defs_faultless}
@@ -95,14 +95,14 @@ module _ (sc : Within) where
     phrase_below at r (headed h span fs) clean =
         let in_ : Next = inside at r h in
         below_join most (own_entries kn at r h (numbers kn in_ fs)) (all_entries kn in_ fs)
-        (own_below at r h (numbers kn in_ fs) (count fs) (none_front (head_faults sc r (count fs) h) (phrases_faults sc fs) clean))
-        (all_below in_ fs (none_back (head_faults sc r (count fs) h) (phrases_faults sc fs) clean))
+        (own_below at r h (numbers kn in_ fs) (count fs) (front_empty (head_faults sc r (count fs) h) (phrases_faults sc fs) clean))
+        (all_below in_ fs (back_empty (head_faults sc r (count fs) h) (phrases_faults sc fs) clean))
 
     all_below : (at : Next) (fs : Phrases) → phrases_faults sc fs ≡ [] → AreBelow most (all_entries kn at fs)
     all_below at none clean = tt
     all_below at (and f fs) clean =
         below_join most (entries kn at 1 f) (all_entries kn (past at 1 f) fs)
-        (phrase_below at 1 f (none_front (phrase_faults sc 1 f) (phrases_faults sc fs) clean)) (all_below (past at 1 f) fs (none_back (phrase_faults sc 1 f) (phrases_faults sc fs) clean))
+        (phrase_below at 1 f (front_empty (phrase_faults sc 1 f) (phrases_faults sc fs) clean)) (all_below (past at 1 f) fs (back_empty (phrase_faults sc 1 f) (phrases_faults sc fs) clean))
 
   rights_below : (at : Next) (defs : List DefTree) → def_faults sc defs ≡ [] → AreBelow most (rights kn at defs)
   rights_below at [] clean = tt
@@ -110,7 +110,7 @@ module _ (sc : Within) where
       let r : ℕ = result_count d.left in
       let f : Phrase = phrase_of d.right in
       below_join most (entries kn at r f) (rights kn (past_def at d) defs)
-      (phrase_below at r f (none_front (phrase_faults sc r f) (def_faults sc defs) clean)) (rights_below (past_def at d) defs (none_back (phrase_faults sc r f) (def_faults sc defs) clean))
+      (phrase_below at r f (front_empty (phrase_faults sc r f) (def_faults sc defs) clean)) (rights_below (past_def at d) defs (back_empty (phrase_faults sc r f) (def_faults sc defs) clean))
 
 module _ (ops : List Operator) (all above : ProgramTree) (t : NodeTree) (clean : node_faults ops all above t ≡ []) where
   places_below : AreBelow (length ops) (n ops all above t).places

@@ -21,11 +21,13 @@ use Rattle.lucy_naming.proofs.CallLaws.{site, own_made, buffers_results}
 use Rattle.lucy_naming.proofs.ShapeLaws.{Takes}
 use Rattle.lucy_naming.proofs.Good.{known_of, Lies, GoodPlace, GoodBuffer, Good, Callee, Setting, is_place}
 
+-- what a test that is met says
 pub unless_holds : (b : Bool) (e : NameError) → unless b e ≡ [] → b ≡ true
 unless_holds true e h = refl
 unless_holds false e h = cc
 
-both_same : (a b c d : ℕ) → (nat_eq a b && nat_eq c d) ≡ true → (a ≡ b) × (c ≡ d)
+-- two pairs of numbers that are tested equal are equal
+pub both_same : (a b c d : ℕ) → (nat_eq a b && nat_eq c d) ≡ true → (a ≡ b) × (c ≡ d)
 both_same a b c d h = (grind (arith, nat_tests), grind (arith, nat_tests))
 
 callee_good : (all : ProgramTree) (n : names.Name) (args results : ℕ) (o : Option NodeTree) → callee_faults all n args results o ≡ [] →

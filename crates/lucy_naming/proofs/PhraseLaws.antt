@@ -11,10 +11,10 @@ use Rattle.lucy_tree.specs.declared.expr.Expr.TheViews.{out-Expr, roll-Expr, rol
 use Rattle.lucy_tree.specs.declared.expr.Exprs.{Exprs}
 use Rattle.lucy_tree.specs.declared.expr.Expr.TheVariants.{Lit, Var, Op, Host, When, Merge, Fby, Buffer, Call, rolls-Lit, rolls-Var, rolls-Op, rolls-Host, rolls-When, rolls-Merge, rolls-Fby, rolls-Buffer, rolls-Call}
 use Rattle.lucy_tree.specs.View.{expr_list}
+use Rattle.lucy_tree.proofs.Trees.{tree_literal, tree_variable, tree_sampled, tree_merged, tree_followed, tree_buffered, tree_call, tree_operator, tree_host}
 use Rattle.lucy_naming.specs.Phrases as phrases
 use Rattle.lucy_naming.specs.Phrases.{headed, none, and, phrase_of, expr_phrase, expr_phrases, span_of}
 use Rattle.lucy_naming.specs.Drafts.{IsPlain}
-use Rattle.lucy_naming.proofs.TreeLaws.{tree_literal, tree_variable, tree_sampled, tree_merged, tree_followed, tree_buffered, tree_called, tree_operated, tree_hosted}
 
 pub phrase_literal : (l : lits.Lit) (s : Span) → expr_phrase (Lit l s) ≡ headed (phrases.Literal l) s none
 phrase_literal l s = ap phrase_of (tree_literal l s)
@@ -35,13 +35,13 @@ pub phrase_buffered : (most : Option ℕ) (e : Box Expr Global) (s : Span) → e
 phrase_buffered most e s = ap phrase_of (tree_buffered most e s)
 
 pub phrase_called : (n : Name) (at : Option Bits) (args : Exprs) → expr_phrase (Call n at args) ≡ headed (phrases.Called n at) n.span (expr_phrases (expr_list args))
-phrase_called n at args = ap phrase_of (tree_called n at args)
+phrase_called n at args = ap phrase_of (tree_call n at args)
 
 pub phrase_operated : (o : ops.Op) (args : Exprs) (s : Span) → expr_phrase (Op o args s) ≡ headed (phrases.Applied o) s (expr_phrases (expr_list args))
-phrase_operated o args s = ap phrase_of (tree_operated o args s)
+phrase_operated o args s = ap phrase_of (tree_operator o args s)
 
 pub phrase_hosted : (n : Name) (args : Exprs) → expr_phrase (Host n args) ≡ headed (phrases.Host n) n.span (expr_phrases (expr_list args))
-phrase_hosted n args = ap phrase_of (tree_hosted n args)
+phrase_hosted n args = ap phrase_of (tree_host n args)
 
 -- what is neither a name nor a call is a form that is no call
 plain_open : (x : open_.Expr-F Expr Exprs) {e : Expr} → roll-Expr x ≡ e → ((n : Name) → e ≡ Var n → ⊥) → ((n : Name) (at : Option Bits) (args : Exprs) → e ≡ Call n at args → ⊥) → IsPlain (expr_phrase e)

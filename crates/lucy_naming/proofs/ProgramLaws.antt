@@ -2,6 +2,7 @@
 use Rattle.std.proofs.Common.{◌≡◌, ◌+◌, ◌<◌, ℕ, take, drop, get_or, List, [], ◌∷◌, ◌++◌, length, false, map, refl, ap, sym, ◌∙◌, subst, append_assoc, append-nil, arith, if◌then◌else◌}
 use Rattle.std.proofs.lemmas.List.{map-append, length-map}
 use Rattle.std.specs.Prelude.{Option}
+use Rattle.lucy_word.proofs.Lists.{drop_next, front_empty}
 use Rattle.lucy_host.specs.Operators.{Operator}
 use Rattle.lucy_tree.specs.declared.span.Span.{Span}
 use Rattle.lucy_tree.specs.declared.program.Node.{Node}
@@ -12,8 +13,7 @@ use Rattle.lucy_naming.specs.Faults.{node_faults, nodes_faults, faults}
 use Rattle.lucy_naming.specs.Nodes.{placed_node, placed_below, placed_nodes}
 use Rattle.lucy_naming.specs.Texts.{is_in}
 use Rattle.lucy_naming.specs.declared.error.NameError.{NameError}
-use Rattle.lucy_place.proofs.ListLaws.{drop_next}
-use Rattle.lucy_naming.proofs.VerdictLaws.{none_front, is_new, tells_front}
+use Rattle.lucy_naming.proofs.VerdictLaws.{is_new, tells_front}
 use Rattle.lucy_naming.specs.Placing.{TellsFirstFault}
 use Rattle.lucy_naming.specs.Written.{first_unwritten}
 use Rattle.lucy_place.specs.Proper.{AreProper, HaveOperators}
@@ -36,7 +36,7 @@ module _ (ops : List Operator) where
       NodesPlaced all above (n ∷ rest) names ps ss → next ≡ above ++ n ∷ [] → node_faults ops all above n ≡ [] → p ≡ placed_node ops above n → s ≡ first_unwritten n →
       more ≡ (if is_in names n.name.text then names else names ++ n.name.text ∷ []) → qs ≡ ps ++ p ∷ [] → ts ≡ ss ++ s ∷ [] → NodesPlaced all next rest more qs ts
   placed_step all above rest next n names more ps qs p ss ts s inv is_next good is_p is_s is_more is_qs is_ts =
-      let fresh : is_in (node_names above) n.name.text ≡ false = is_new (is_in (node_names above) n.name.text) _ (none_front _ _ good) in
+      let fresh : is_in (node_names above) n.name.text ≡ false = is_new (is_in (node_names above) n.name.text) _ (front_empty _ _ good) in
       let new : is_in names n.name.text ≡ false = ap (λ ns. is_in ns n.name.text) inv.names ∙ fresh in
       record {
         names = is_more ∙ ap (λ b. if b then names else names ++ n.name.text ∷ []) new ∙ ap (λ ns. ns ++ n.name.text ∷ []) inv.names

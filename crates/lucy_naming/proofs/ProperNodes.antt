@@ -1,6 +1,7 @@
 -- A node without faults is proper, where its tree has the shape that the grammar gives.
 use Rattle.std.proofs.Common.{◌≡◌, ◌+◌, ◌≤◌, ◌<◌, ℕ, zero, suc, Bool, true, false, List, [], ◌∷◌, ◌++◌, length, length-append, map, Some, slice_get, if◌then◌else◌, refl, ap, sym, ◌∙◌, subst, arith}
 use Rattle.std.proofs.lemmas.List.{length-map}
+use Rattle.lucy_word.proofs.Lists.{front_empty, back_empty}
 use Rattle.lucy_host.specs.Operators.{Operator}
 use Rattle.lucy_tree.specs.declared.span.Name.{Name}
 use Rattle.lucy_tree.specs.declared.decl.Decl.{Decl}
@@ -20,13 +21,13 @@ use Rattle.lucy_naming.specs.Numbering.{Next}
 use Rattle.lucy_naming.specs.Places.{Known, stream_place, declared_entry, known_in}
 use Rattle.lucy_naming.specs.Nodes.{past_defs, defined, rights, first_next, placed_node}
 use Rattle.lucy_place.specs.Proper.{at_one, Stands, ArePlaces, IsNamed, AreNamed, IsProperCall, IsProperNode}
+use Rattle.lucy_place.proofs.NodeLaws.{named_place}
 use Rattle.lucy_naming.proofs.EachLaws.{Each, each_one}
 use Rattle.lucy_naming.proofs.Spread.{Call, Reaches, reaches_join}
 use Rattle.lucy_naming.proofs.BoundLaws.{past_bounds, defs_small}
 use Rattle.lucy_naming.proofs.CallLaws.{site, def_made, def_sites_are, reaches_defs}
 use Rattle.lucy_naming.proofs.RoomLaws.{length_node, past_few}
-use Rattle.lucy_naming.proofs.VerdictLaws.{none_front, none_back}
-use Rattle.lucy_naming.proofs.Good.{known_of, GoodPlace, GoodBuffer, GoodCall, Good, IsResultOf, Callee, named_place}
+use Rattle.lucy_naming.proofs.Good.{known_of, GoodPlace, GoodBuffer, GoodCall, Good, IsResultOf, Callee}
 use Rattle.lucy_naming.proofs.ProperPhrases.{good_join, defs_good}
 use Rattle.lucy_naming.proofs.NodeFaults.{defs_faultless, results_faultless, rooms_few}
 use Rattle.lucy_naming.proofs.NameLaws.{distinct}
@@ -56,8 +57,8 @@ module _ (n : PlacedNode) (w : Within) (known : (t : List ℕ) → is_in w.strea
   results_named : (before : List (List ℕ)) (rs : List Name) → result_faults w.streams before rs ≡ [] → AreNamed n (map (λ r. stream_place (known_of w) r.text) rs)
   results_named before [] h = tt
   results_named before (r ∷ rs) h =
-      let own = none_front (result_fault w.streams before r) (result_faults w.streams (before ++ r.text ∷ []) rs) h in
-      let rest = none_back (result_fault w.streams before r) (result_faults w.streams (before ++ r.text ∷ []) rs) h in
+      let own = front_empty (result_fault w.streams before r) (result_faults w.streams (before ++ r.text ∷ []) rs) h in
+      let rest = back_empty (result_fault w.streams before r) (result_faults w.streams (before ++ r.text ∷ []) rs) h in
       (known r.text (is_stream _ _ _ own), results_named (before ++ r.text ∷ []) rs rest)
 
 -- what the parameters of a node are

@@ -1,6 +1,7 @@
 -- The places, buffers and calls of expressions and of definitions: their numbers name what they should.
 use Rattle.std.proofs.Common.{◌≡◌, ◌+◌, ◌≤◌, ◌<◌, ℕ, suc, List, [], ◌∷◌, ◌++◌, length, Some, refl, subst, arith}
 use Rattle.std.specs.List.{AllByRecursion}
+use Rattle.lucy_word.proofs.Lists.{front_empty, back_empty}
 use Rattle.lucy_tree.specs.declared.decl.Decl.{Decl}
 use Rattle.lucy_tree.specs.Tree.{Tree, literal, variable, operator, host, sampled, merged, followed, buffered, call}
 use Rattle.lucy_tree.specs.View.{DefTree}
@@ -15,13 +16,13 @@ use Rattle.lucy_naming.specs.Numbering.{Next, past, inside, number, numbers, ent
 use Rattle.lucy_naming.specs.Places.{Known, unnamed, results_from, left_entries}
 use Rattle.lucy_naming.specs.Nodes.{past_def, defined, rights}
 use Rattle.lucy_place.specs.Proper.{at_one, IsPlace, ArePlaces}
+use Rattle.lucy_place.proofs.NodeLaws.{named_place}
 use Rattle.lucy_naming.proofs.EachLaws.{Each, each_join, each_front, each_at}
 use Rattle.lucy_naming.proofs.Spread.{Call, Reaches, spread_join, spread_front, spread_back}
 use Rattle.lucy_naming.proofs.CallLaws.{made, all_made, own_made, def_made, reaches_own, reaches_phrase}
 use Rattle.lucy_naming.proofs.ShapeLaws.{Takes, HasShape, HaveShape, has_shape, count_numbers}
 use Rattle.lucy_naming.proofs.RoomLaws.{some_results, length_lefts}
-use Rattle.lucy_naming.proofs.VerdictLaws.{none_front, none_back}
-use Rattle.lucy_naming.proofs.Good.{known_of, Lies, GoodPlace, GoodBuffer, GoodCall, Good, Setting, is_place, named_place}
+use Rattle.lucy_naming.proofs.Good.{known_of, Lies, GoodPlace, GoodBuffer, GoodCall, Good, Setting, is_place}
 use Rattle.lucy_naming.proofs.OwnPlaces.{unless_holds, slice_results, own_good}
 
 module _ (n : PlacedNode) (cs : List Call) (at to : Next) (es fs : List PlaceEntry) (xs ys : List Call) (reach : Reaches at to es xs) where
@@ -59,9 +60,9 @@ module _ (w : Within) (above : List PlacedNode) (n : PlacedNode) (cs : List Call
         let same : count fs ≡ length args = count_numbers k in_ fs in
         let front = lies_front n cs at in_ (own_entries k at r h args) (all_entries k in_ fs) (own_made k at r h args) (all_made k in_ fs) (reaches_own k at r h args) lies in
         let back = lies_back n cs at in_ (own_entries k at r h args) (all_entries k in_ fs) (own_made k at r h args) (all_made k in_ fs) (reaches_own k at r h args) lies in
-        let rest = all_good in_ fs (omega (arith, low)) shape.1 (none_back (head_faults w r (count fs) h) (phrases_faults w fs) good) back in
+        let rest = all_good in_ fs (omega (arith, low)) shape.1 (back_empty (head_faults w r (count fs) h) (phrases_faults w fs) good) back in
         let own = own_good w above n cs set at r h args some low (subst (Takes h) same shape.0) rest.numbers
-        (subst (λ m. head_faults w r m h ≡ []) same (none_front (head_faults w r (count fs) h) (phrases_faults w fs) good)) front in
+        (subst (λ m. head_faults w r m h ≡ []) same (front_empty (head_faults w r (count fs) h) (phrases_faults w fs) good)) front in
         record {
           number = own.first;
           good = good_join n cs at in_ (own_entries k at r h args) (all_entries k in_ fs) (own_made k at r h args) (all_made k in_ fs) (reaches_own k at r h args) above own.good rest.good;
@@ -73,8 +74,8 @@ module _ (w : Within) (above : List PlacedNode) (n : PlacedNode) (cs : List Call
         let next : Next = past at 1 f in
         let front = lies_front n cs at next (entries k at 1 f) (all_entries k next fs) (made k at 1 f) (all_made k next fs) (reaches_phrase k at 1 f) lies in
         let back = lies_back n cs at next (entries k at 1 f) (all_entries k next fs) (made k at 1 f) (all_made k next fs) (reaches_phrase k at 1 f) lies in
-        let first = phrase_good at 1 f (omega arith) low shape.0 (none_front (phrase_faults w 1 f) (phrases_faults w fs) good) front in
-        let rest = all_good next fs (omega (arith, low)) shape.1 (none_back (phrase_faults w 1 f) (phrases_faults w fs) good) back in
+        let first = phrase_good at 1 f (omega arith) low shape.0 (front_empty (phrase_faults w 1 f) (phrases_faults w fs) good) front in
+        let rest = all_good next fs (omega (arith, low)) shape.1 (back_empty (phrase_faults w 1 f) (phrases_faults w fs) good) back in
         record {
           numbers = (first.number, rest.numbers);
           good = good_join n cs at next (entries k at 1 f) (all_entries k next fs) (made k at 1 f) (all_made k next fs) (reaches_phrase k at 1 f) above first.good rest.good;
@@ -123,8 +124,8 @@ module _ (w : Within) (above : List PlacedNode) (n : PlacedNode) (cs : List Call
       let next : Next = past_def at d in
       let front = lies_front n cs at next (entries k at r f) (rights k next ds) (made k at r f) (def_made k next ds) (reaches_phrase k at r f) lies in
       let back = lies_back n cs at next (entries k at r f) (rights k next ds) (made k at r f) (def_made k next ds) (reaches_phrase k at r f) lies in
-      let first = phrase_good at r f (some_results d.left) low (has_shape d.right shape.0.right) (none_front (phrase_faults w r f) (def_faults w ds) good) front in
-      let rest = defs_good next ds (omega (arith, low)) shape.1 (none_back (phrase_faults w r f) (def_faults w ds) good) back in
+      let first = phrase_good at r f (some_results d.left) low (has_shape d.right shape.0.right) (front_empty (phrase_faults w r f) (def_faults w ds) good) front in
+      let rest = defs_good next ds (omega (arith, low)) shape.1 (back_empty (phrase_faults w r f) (def_faults w ds) good) back in
       record {
         rights = good_join n cs at next (entries k at r f) (rights k next ds) (made k at r f) (def_made k next ds) (reaches_phrase k at r f) above first.good rest.rights;
         defined = λ from l.

@@ -2,6 +2,7 @@
 use Rattle.std.proofs.Common.{◌≡◌, ℕ, zero, suc, List, [], ◌∷◌, ◌++◌, take, Some, slice_get, refl, ap, sym, ◌∙◌, subst, append_assoc, append-nil}
 use Rattle.std.proofs.lemmas.List.{length-map}
 use Rattle.std.specs.List.{AllByRecursion}
+use Rattle.lucy_word.proofs.Lists.{front_empty, back_empty}
 use Rattle.lucy_host.specs.Operators.{Operator}
 use Rattle.lucy_tree.specs.declared.span.Name.{Name}
 use Rattle.lucy_tree.specs.View.{NodeTree, ProgramTree}
@@ -11,7 +12,6 @@ use Rattle.lucy_naming.specs.Faults.{node_faults, nodes_faults, faults}
 use Rattle.lucy_naming.specs.Places.{stream_place, known_in}
 use Rattle.lucy_naming.specs.Nodes.{placed_node, placed_below, placed_nodes}
 use Rattle.lucy_place.specs.Proper.{IsProperNode, AreProper}
-use Rattle.lucy_naming.proofs.VerdictLaws.{none_front, none_back}
 use Rattle.lucy_naming.proofs.Good.{Callee}
 use Rattle.lucy_naming.proofs.ProperNodes.{node_proper}
 
@@ -46,10 +46,10 @@ module _ (ops : List Operator) where
   node_good all above [] i t none h = cc
   node_good all above (u ∷ ts) zero t none h =
       let same : u ≡ t = cc in
-      ap (λ a. node_faults ops all a t) (append-nil above) ∙ ap (node_faults ops all above) (sym same) ∙ none_front (node_faults ops all above u) (nodes_faults ops all (above ++ u ∷ []) ts) none
+      ap (λ a. node_faults ops all a t) (append-nil above) ∙ ap (node_faults ops all above) (sym same) ∙ front_empty (node_faults ops all above u) (nodes_faults ops all (above ++ u ∷ []) ts) none
   node_good all above (u ∷ ts) (suc i) t none h =
       ap (λ a. node_faults ops all a t) (sym (behind above u ts i))
-      ∙ node_good all (above ++ u ∷ []) ts i t (none_back (node_faults ops all above u) (nodes_faults ops all (above ++ u ∷ []) ts) none) h
+      ∙ node_good all (above ++ u ∷ []) ts i t (back_empty (node_faults ops all above u) (nodes_faults ops all (above ++ u ∷ []) ts) none) h
 
   pub node_shaped : (ts : ProgramTree) (i : ℕ) (t : NodeTree) → AllByRecursion IsShapedNode ts → slice_get ts i ≡ Some t → IsShapedNode t
   node_shaped [] i t shape h = cc

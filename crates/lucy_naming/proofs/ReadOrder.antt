@@ -3,6 +3,7 @@ use Rattle.std.proofs.Common.{◌≡◌, ◌+◌, ◌≤◌, ◌<◌, ℕ, zero,
 use Rattle.std.proofs.lemmas.List.{length-map}
 use Rattle.std.proofs.lemmas.Option.{same_Some, slice_get_within}
 use Rattle.std.specs.List.{AllByRecursion}
+use Rattle.lucy_word.proofs.Lists.{front_empty, back_empty}
 use Rattle.lucy_host.specs.Operators.{Operator}
 use Rattle.lucy_tree.specs.declared.decl.Decl.{Decl}
 use Rattle.lucy_tree.specs.declared.span.Name as names
@@ -25,7 +26,6 @@ use Rattle.lucy_naming.proofs.Spread.{Call}
 use Rattle.lucy_naming.proofs.CallLaws.{site, made, all_made, own_made, def_made, reaches_own, reaches_phrase, def_sites_are}
 use Rattle.lucy_naming.proofs.ShapeLaws.{Takes, HasShape, HaveShape, has_shape, count_numbers}
 use Rattle.lucy_naming.proofs.RoomLaws.{some_results, length_defined}
-use Rattle.lucy_naming.proofs.VerdictLaws.{none_front, none_back}
 use Rattle.lucy_naming.proofs.Good.{known_of, Lies}
 use Rattle.lucy_naming.proofs.OwnPlaces.{unless_holds, site_at}
 use Rattle.lucy_naming.proofs.ProperPhrases.{lies_front, lies_back}
@@ -61,10 +61,10 @@ module _ (sc : Scope) (m : PlacedNode) (calls_of : List Call) (calls : m.calls �
   numbers_behind at none good j x e h = absurd (cc e)
   numbers_behind at (and f fs) good zero x e h =
       let same : number kn at f ≡ x = same_Some (number kn at f) x e in
-      let b = number_behind at f (none_front (phrase_faults sc 1 f) (phrases_faults sc fs) good) (omega arith) in
+      let b = number_behind at f (front_empty (phrase_faults sc 1 f) (phrases_faults sc fs) good) (omega arith) in
       omega arith
   numbers_behind at (and f fs) good (suc j) x e h =
-      let b = numbers_behind (past at 1 f) fs (none_back (phrase_faults sc 1 f) (phrases_faults sc fs) good) j x e h in
+      let b = numbers_behind (past at 1 f) fs (back_empty (phrase_faults sc 1 f) (phrases_faults sc fs) good) j x e h in
       omega arith
 
   -- one number, and two
@@ -121,9 +121,9 @@ module _ (sc : Scope) (m : PlacedNode) (calls_of : List Call) (calls : m.calls �
         let reach = reaches_own kn at r h args in
         let front = lies_front m calls_of at in_ (own_entries kn at r h args) (all_entries kn in_ fs) (own_made kn at r h args) (all_made kn in_ fs) reach lies in
         let back = lies_back m calls_of at in_ (own_entries kn at r h args) (all_entries kn in_ fs) (own_made kn at r h args) (all_made kn in_ fs) reach lies in
-        let clean = none_back (head_faults sc r (count fs) h) (phrases_faults sc fs) good in
+        let clean = back_empty (head_faults sc r (count fs) h) (phrases_faults sc fs) good in
         each_join Ahead at.place in_.place (own_entries kn at r h args) (all_entries kn in_ fs) reach.place
-        (own_ahead at r h args some (subst (Takes h) same shape.0) (subst (λ c. head_faults sc r c h ≡ []) same (none_front (head_faults sc r (count fs) h) (phrases_faults sc fs) good)) front (numbers_behind in_ fs clean))
+        (own_ahead at r h args some (subst (Takes h) same shape.0) (subst (λ c. head_faults sc r c h ≡ []) same (front_empty (head_faults sc r (count fs) h) (phrases_faults sc fs) good)) front (numbers_behind in_ fs clean))
         (all_ahead in_ fs shape.1 clean back)
 
     pub all_ahead : (at : Next) (fs : Phrases) → HaveShape fs → phrases_faults sc fs ≡ [] → Lies m calls_of at (all_entries kn at fs) (all_made kn at fs) → Each Ahead at.place (all_entries kn at fs)
@@ -134,8 +134,8 @@ module _ (sc : Scope) (m : PlacedNode) (calls_of : List Call) (calls : m.calls �
         let front = lies_front m calls_of at next (entries kn at 1 f) (all_entries kn next fs) (made kn at 1 f) (all_made kn next fs) reach lies in
         let back = lies_back m calls_of at next (entries kn at 1 f) (all_entries kn next fs) (made kn at 1 f) (all_made kn next fs) reach lies in
         each_join Ahead at.place next.place (entries kn at 1 f) (all_entries kn next fs) reach.place
-        (phrase_ahead at 1 f (omega arith) shape.0 (none_front (phrase_faults sc 1 f) (phrases_faults sc fs) good) front)
-        (all_ahead next fs shape.1 (none_back (phrase_faults sc 1 f) (phrases_faults sc fs) good) back)
+        (phrase_ahead at 1 f (omega arith) shape.0 (front_empty (phrase_faults sc 1 f) (phrases_faults sc fs) good) front)
+        (all_ahead next fs shape.1 (back_empty (phrase_faults sc 1 f) (phrases_faults sc fs) good) back)
 
   pub defs_ahead : (at : Next) (defs : List DefTree) → AllByRecursion IsShapedDef defs → def_faults sc defs ≡ [] → Lies m calls_of at (rights kn at defs) (def_made kn at defs) → Each Ahead at.place (rights kn at defs)
   defs_ahead at [] shape good lies = tt
@@ -147,8 +147,8 @@ module _ (sc : Scope) (m : PlacedNode) (calls_of : List Call) (calls : m.calls �
       let front = lies_front m calls_of at next (entries kn at r f) (rights kn next defs) (made kn at r f) (def_made kn next defs) reach lies in
       let back = lies_back m calls_of at next (entries kn at r f) (rights kn next defs) (made kn at r f) (def_made kn next defs) reach lies in
       each_join Ahead at.place next.place (entries kn at r f) (rights kn next defs) reach.place
-      (phrase_ahead at r f (some_results d.left) (has_shape d.right shape.0.right) (none_front (phrase_faults sc r f) (def_faults sc defs) good) front)
-      (defs_ahead next defs shape.1 (none_back (phrase_faults sc r f) (def_faults sc defs) good) back)
+      (phrase_ahead at r f (some_results d.left) (has_shape d.right shape.0.right) (front_empty (phrase_faults sc r f) (def_faults sc defs) good) front)
+      (defs_ahead next defs shape.1 (back_empty (phrase_faults sc r f) (def_faults sc defs) good) back)
 
 module _ (ops : List Operator) (all above : ProgramTree) (t : NodeTree) (shape : IsShapedNode t) (clean : node_faults ops all above t ≡ []) where
   node_calls : (n ops all above t).calls ≡ map site (cs ops all above t)

@@ -1,6 +1,7 @@
 -- How often a number behind those of the streams is read in expressions: once, but for their first places.
 use Rattle.std.proofs.Common.{◌≡◌, ◌+◌, ◌≤◌, ◌<◌, ℕ, zero, suc, List, [], ◌∷◌, true, length, map, Some, slice_index_or, refl, ap, sym, ◌∙◌, subst, arith}
 use Rattle.std.specs.List.{AllByRecursion}
+use Rattle.lucy_word.proofs.Lists.{front_empty, back_empty}
 use Rattle.lucy_tree.specs.declared.decl.Decl.{Decl}
 use Rattle.lucy_tree.specs.declared.span.Span.{Span}
 use Rattle.lucy_tree.specs.declared.span.Name as names
@@ -22,7 +23,6 @@ use Rattle.lucy_naming.proofs.CallLaws.{site, made, all_made, own_made, def_made
 use Rattle.lucy_naming.proofs.ShapeLaws.{Takes, HasShape, HaveShape, has_shape, count_numbers}
 use Rattle.lucy_naming.proofs.DraftLaws.{inside_past}
 use Rattle.lucy_naming.proofs.RoomLaws.{some_results}
-use Rattle.lucy_naming.proofs.VerdictLaws.{none_front, none_back}
 use Rattle.lucy_naming.proofs.Good.{known_of, Lies}
 use Rattle.lucy_naming.proofs.OwnPlaces.{unless_holds, site_at}
 use Rattle.lucy_naming.proofs.ProperPhrases.{lies_front, lies_back}
@@ -116,8 +116,8 @@ module _ (w : Scope) (n : PlacedNode) (cs : List Call) (calls : n.calls ≡ map 
         let same : count fs ≡ length args = count_numbers k in_ fs in
         let front = lies_front n cs at in_ (own_entries k at r h args) (all_entries k in_ fs) (own_made k at r h args) (all_made k in_ fs) (reaches_own k at r h args) lies in
         let back = lies_back n cs at in_ (own_entries k at r h args) (all_entries k in_ fs) (own_made k at r h args) (all_made k in_ fs) (reaches_own k at r h args) lies in
-        let own = own_count at r h args some (subst (Takes h) same shape.0) (subst (λ m. head_faults w r m h ≡ []) same (none_front (head_faults w r (count fs) h) (phrases_faults w fs) good)) front in
-        let rest = all_count in_ fs (omega (arith, low)) shape.1 (none_back (head_faults w r (count fs) h) (phrases_faults w fs) good) back in
+        let own = own_count at r h args some (subst (Takes h) same shape.0) (subst (λ m. head_faults w r m h ≡ []) same (front_empty (head_faults w r (count fs) h) (phrases_faults w fs) good)) front in
+        let rest = all_count in_ fs (omega (arith, low)) shape.1 (back_empty (head_faults w r (count fs) h) (phrases_faults w fs) good) back in
         let sum = total_append n q (own_entries k at r h args) (all_entries k in_ fs) in
         let c : times q args + total n q (all_entries k in_ fs) ≡ total n q (entries k at r (headed h span fs)) = omega arith in
         subst (λ t. Within in_.place t q (total n q (entries k at r (headed h span fs)))) (ap (λ (x : Next). x.place) (inside_past at r h span fs)) (subst (Within in_.place (past_all in_ fs).place q) c rest)
@@ -129,9 +129,9 @@ module _ (w : Scope) (n : PlacedNode) (cs : List Call) (calls : n.calls ≡ map 
         let next : Next = past at 1 f in
         let front = lies_front n cs at next (entries k at 1 f) (all_entries k next fs) (made k at 1 f) (all_made k next fs) (reaches_phrase k at 1 f) lies in
         let back = lies_back n cs at next (entries k at 1 f) (all_entries k next fs) (made k at 1 f) (all_made k next fs) (reaches_phrase k at 1 f) lies in
-        let clean = none_front (phrase_faults w 1 f) (phrases_faults w fs) good in
+        let clean = front_empty (phrase_faults w 1 f) (phrases_faults w fs) good in
         let first = operand_from at f clean (phrase_count at 1 f (omega arith) low shape.0 clean front) in
-        let rest = all_count next fs (omega (arith, low)) shape.1 (none_back (phrase_faults w 1 f) (phrases_faults w fs) good) back in
+        let rest = all_count next fs (omega (arith, low)) shape.1 (back_empty (phrase_faults w 1 f) (phrases_faults w fs) good) back in
         let sum = total_append n q (entries k at 1 f) (all_entries k next fs) in
         within_join at.place next.place (past_all next fs).place q (test q (number k at f) + total n q (entries k at 1 f)) (times q (numbers k next fs) + total n q (all_entries k next fs)) _
         (omega arith) (all_behind next fs) first rest (omega arith)
@@ -197,8 +197,8 @@ module _ (w : Scope) (n : PlacedNode) (cs : List Call) (calls : n.calls ≡ map 
       let next : Next = past_def at d in
       let front = lies_front n cs at next (entries k at r f) (rights k next ds) (made k at r f) (def_made k next ds) (reaches_phrase k at r f) lies in
       let back = lies_back n cs at next (entries k at r f) (rights k next ds) (made k at r f) (def_made k next ds) (reaches_phrase k at r f) lies in
-      let first = def_count at d.left f (fits_of d.left d.right shape.0.defines) low (has_shape d.right shape.0.right) (none_front (phrase_faults w r f) (def_faults w ds) good) front in
-      let rest = defs_count next ds (omega (arith, low)) shape.1 (none_back (phrase_faults w r f) (def_faults w ds) good) back in
+      let first = def_count at d.left f (fits_of d.left d.right shape.0.defines) low (has_shape d.right shape.0.right) (front_empty (phrase_faults w r f) (def_faults w ds) good) front in
+      let rest = defs_count next ds (omega (arith, low)) shape.1 (back_empty (phrase_faults w r f) (def_faults w ds) good) back in
       let lefts : List PlaceEntry = left_entries (number k at f) d.left in
       let sum = total_append n q lefts (defined k next ds) in
       let more = total_append n q (entries k at r f) (rights k next ds) in

@@ -4,15 +4,16 @@ use Rattle.std.specs.List.{AllByRecursion, IsDistinct}
 use Rattle.std.proofs.lemmas.Cmp.{nat_list_eq_equiv}
 use Rattle.std.proofs.lemmas.List.{length-map}
 use Rattle.std.proofs.lemmas.Map.Made.{length-le_from_is_member}
+use Rattle.lucy_word.proofs.Lists.{front_empty, back_empty}
 use Rattle.lucy_tree.specs.declared.span.Name.{Name}
 use Rattle.lucy_naming.specs.declared.error.NameError.{NameError}
 use Rattle.lucy_naming.specs.Texts.{is_text, is_in}
 use Rattle.lucy_naming.specs.Views.{text_of}
 use Rattle.lucy_naming.specs.Faults.{unless, result_fault, result_faults}
-use Rattle.lucy_naming.proofs.VerdictLaws.{none_front, none_back}
 use Rattle.lucy_naming.proofs.NameLaws.{behind_one}
 
-no_fault : (stream twice : Bool) (e f : NameError) → (if stream then unless (not twice) e else f ∷ []) ≡ [] →
+-- a result that is a stream and told once has no fault
+pub no_fault : (stream twice : Bool) (e f : NameError) → (if stream then unless (not twice) e else f ∷ []) ≡ [] →
     (stream ≡ true) × (twice ≡ false)
 no_fault true true e f h = cc
 no_fault true false e f h = (refl, refl)
@@ -29,15 +30,15 @@ module _ (streams : List (List ℕ)) where
       result_faults streams before rs ≡ [] → AllByRecursion (λ y. is_text x y ≡ false) (map text_of rs)
   apart x before [] out h = tt
   apart x before (r ∷ rs) out h =
-      let own = none_front (result_fault streams before r) (result_faults streams (before ++ r.text ∷ []) rs) h in
-      let rest = none_back (result_fault streams before r) (result_faults streams (before ++ r.text ∷ []) rs) h in
+      let own = front_empty (result_fault streams before r) (result_faults streams (before ++ r.text ∷ []) rs) h in
+      let rest = back_empty (result_fault streams before r) (result_faults streams (before ++ r.text ∷ []) rs) h in
       (out r.text (no_fault _ _ _ _ own).1, apart x (before ++ r.text ∷ []) rs (λ y k. out y (behind_one before y r.text k).0) rest)
 
   distinct : (before : List (List ℕ)) (rs : List Name) → result_faults streams before rs ≡ [] → IsDistinct is_text (map text_of rs)
   unfolding IsDistinct
   distinct before [] h = tt
   distinct before (r ∷ rs) h =
-      let rest = none_back (result_fault streams before r) (result_faults streams (before ++ r.text ∷ []) rs) h in (
+      let rest = back_empty (result_fault streams before r) (result_faults streams (before ++ r.text ∷ []) rs) h in (
         apart r.text (before ++ r.text ∷ []) rs (λ y k. nat_list_eq_equiv.symm r.text y
             ∙ (behind_one before y r.text k).1) rest,
         distinct (before ++ r.text ∷ []) rs rest,
@@ -54,8 +55,8 @@ module _ (streams : List (List ℕ)) where
       is_in (map text_of rs) q ≡ true → is_in streams q ≡ true
   within before [] h q k = cc
   within before (r ∷ rs) h q k =
-      let own = none_front (result_fault streams before r) (result_faults streams (before ++ r.text ∷ []) rs) h in
-      let rest = none_back (result_fault streams before r) (result_faults streams (before ++ r.text ∷ []) rs) h in
+      let own = front_empty (result_fault streams before r) (result_faults streams (before ++ r.text ∷ []) rs) h in
+      let rest = back_empty (result_fault streams before r) (result_faults streams (before ++ r.text ∷ []) rs) h in
       one_of before r rs q _ _ refl refl k (no_fault _ _ _ _ own).0 (within (before ++ r.text ∷ []) rs rest q)
 
   pub few_results : (rs : List Name) → result_faults streams [] rs ≡ [] → length rs ≤ length streams

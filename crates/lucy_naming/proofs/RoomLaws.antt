@@ -71,6 +71,7 @@ pub length_lefts : (right : ℕ) (ds : List Decl) → length (left_entries right
 length_lefts right [] = refl
 length_lefts right (d ∷ ds) = omega (arith, length_lefts (right + 1) ds)
 
+-- as many streams are defined as are named
 pub length_defined : (k : Known) (at : Next) (ds : List DefTree) → length (defined k at ds) ≡ length (def_names ds)
 length_defined k at [] = refl
 length_defined k at (d ∷ ds) =

@@ -1,6 +1,6 @@
 -- The first of faults that are looked for one after another.
 use Rattle.std.proofs.Common.{◌≡◌, ◌++◌, Bool, true, false, not, List, [], ◌∷◌, ℕ, length, map, Result, Ok, Err, refl, ap, sym, ◌∙◌, inl, inr, arith, append_assoc, append-nil}
-use Rattle.std.specs.Prelude.{IfErr, IsOk, ◌⊎◌}
+use Rattle.std.specs.Prelude.{IsOk, ◌⊎◌}
 use Rattle.std.specs.Result.{IsErrAnd}
 use Rattle.std.proofs.lemmas.List.{map-append}
 use Rattle.std.proofs.lemmas.Result.{err_from_is_err_and}
@@ -37,13 +37,6 @@ faultless (x ∷ xs) h = cc
 pub all_faultless : (xs ys : List NameError) → xs ≡ [] → ys ≡ [] → xs ++ ys ≡ []
 all_faultless [] ys h g = g
 all_faultless (x ∷ xs) ys h g = cc
-
--- the error of a call goes out of the function by `?`
-pub leaves : {T : Type 0} (P Q : NameError → Type 0) (e : NameError) (r : Result T NameError) →
-    IsErrAnd r (λ y. y ≡ e) → P e → ((y : NameError) → P y → Q y) → IfErr r Q
-leaves P Q e r i h f =
-    let p = err_from_is_err_and r i in
-    rw (p.1, p.2) (f e h)
 
 -- as many phrases as expressions
 pub count_phrases : (es : List Expr) → count (expr_phrases es) ≡ length es
@@ -82,15 +75,6 @@ rejected_by fs r e is (inr told) y first = inr (is ∙ same (sym told ∙ first)
 pub out_of : {T : Type 0} (r : Result T NameError) (e : NameError) → IsErrAnd r (λ y. y ≡ e) → r ≡ Err e
 out_of r e i = let p = err_from_is_err_and r i in p.1 ∙ ap Err p.2
 
--- no faults in all, so none in the first part, and none in the rest
-pub none_front : (xs ys : List NameError) → xs ++ ys ≡ [] → xs ≡ []
-none_front [] ys h = refl
-none_front (x ∷ xs) ys h = cc
-
 pub is_new : (b : Bool) (e : NameError) → unless (not b) e ≡ [] → b ≡ false
 is_new true e h = cc
 is_new false e h = refl
-
-pub none_back : (xs ys : List NameError) → xs ++ ys ≡ [] → ys ≡ []
-none_back [] ys h = h
-none_back (x ∷ xs) ys h = cc

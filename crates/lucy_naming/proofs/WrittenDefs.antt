@@ -1,6 +1,7 @@
 -- No span keeps definitions from being written exactly where they are written.
 use Rattle.std.proofs.Common.{◌≡◌, ◌+◌, ℕ, true, List, [], ◌∷◌, length, map, Some, refl, arith}
 use Rattle.std.specs.List.{AllByRecursion, flat_map}
+use Rattle.lucy_word.proofs.Lists.{front_empty, back_empty}
 use Rattle.lucy_tree.specs.declared.decl.Decl.{Decl}
 use Rattle.lucy_tree.specs.View.{DefTree}
 use Rattle.lucy_tree.specs.Shaped.{IsShapedDef}
@@ -22,25 +23,24 @@ use Rattle.lucy_naming.proofs.Spread.{Call}
 use Rattle.lucy_naming.proofs.CallLaws.{made, def_made, reaches_phrase}
 use Rattle.lucy_naming.proofs.ShapeLaws.{has_shape}
 use Rattle.lucy_naming.proofs.RoomLaws.{length_lefts}
-use Rattle.lucy_naming.proofs.VerdictLaws.{none_front, none_back}
 use Rattle.lucy_naming.proofs.Good.{known_of, Lies, Setting}
 use Rattle.lucy_naming.proofs.ProperPhrases.{lies_front, lies_back}
-use Rattle.lucy_naming.proofs.WrittenPhrases.{no_spans, spans_front, spans_back, has_word, none_lacking, WrittenPlace, AllWritten, written_join, phrase_written}
+use Rattle.lucy_naming.proofs.WrittenPhrases.{no_spans, has_word, none_lacking, WrittenPlace, AllWritten, written_join, phrase_written}
 use Rattle.lucy_naming.proofs.NamedPhrases.{phrase_none}
 
 -- declarations that have their words
 pub params_written : (n : PlacedNode) (from : ℕ) (ds : List Decl) → decl_spans ds ≡ [] → Each (WrittenPlace n) from (map (declared_entry kind.Param) ds)
 params_written n from [] h = tt
 params_written n from (d ∷ ds) h = (
-  record { word = λ name g. has_word d.word d.name.span (spans_front (lacking d.word d.name.span) (decl_spans ds) h); operand = tt },
-  params_written n (from + 1) ds (spans_back (lacking d.word d.name.span) (decl_spans ds) h),
+  record { word = λ name g. has_word d.word d.name.span (front_empty (lacking d.word d.name.span) (decl_spans ds) h); operand = tt },
+  params_written n (from + 1) ds (back_empty (lacking d.word d.name.span) (decl_spans ds) h),
 )
 
 lefts_written : (n : PlacedNode) (from right : ℕ) (ds : List Decl) → decl_spans ds ≡ [] → Each (WrittenPlace n) from (left_entries right ds)
 lefts_written n from right [] h = tt
 lefts_written n from right (d ∷ ds) h = (
-  record { word = λ name g. has_word d.word d.name.span (spans_front (lacking d.word d.name.span) (decl_spans ds) h); operand = tt },
-  lefts_written n (from + 1) (right + 1) ds (spans_back (lacking d.word d.name.span) (decl_spans ds) h),
+  record { word = λ name g. has_word d.word d.name.span (front_empty (lacking d.word d.name.span) (decl_spans ds) h); operand = tt },
+  lefts_written n (from + 1) (right + 1) ds (back_empty (lacking d.word d.name.span) (decl_spans ds) h),
 )
 
 module _ (n : PlacedNode) (is : IsWritten n) where
@@ -71,16 +71,16 @@ module _ (w : Within) (n : PlacedNode) (known : (t : List ℕ) → is_in w.strea
       let r : ℕ = result_count d.left in
       let f : Phrase = phrase_of d.right in
       let next : Next = past_def at d in
-      let own = spans_front (def_spans d) (flat_map def_spans ds) spans in
-      let rest = defs_written next ds shape.1 (none_back (phrase_faults w r f) (def_faults w ds) good) (spans_back (def_spans d) (flat_map def_spans ds) spans) in
+      let own = front_empty (def_spans d) (flat_map def_spans ds) spans in
+      let rest = defs_written next ds shape.1 (back_empty (phrase_faults w r f) (def_faults w ds) good) (back_empty (def_spans d) (flat_map def_spans ds) spans) in
       record {
         rights = written_join n at next (entries k at r f) (rights k next ds) (made k at r f) (def_made k next ds) (reaches_phrase k at r f)
-            (phrase_written w n known at r f (has_shape d.right shape.0.right) (none_front (phrase_faults w r f) (def_faults w ds) good) (spans_back (decl_spans d.left) (phrase_spans f) own))
+            (phrase_written w n known at r f (has_shape d.right shape.0.right) (front_empty (phrase_faults w r f) (def_faults w ds) good) (back_empty (decl_spans d.left) (phrase_spans f) own))
             rest.rights;
         defined = λ from.
             each_join (WrittenPlace n) from (from + length d.left) (left_entries (number k at f) d.left) (defined k next ds)
             (let e = length_lefts (number k at f) d.left in omega (arith, e))
-            (lefts_written n from (number k at f) d.left (spans_front (decl_spans d.left) (phrase_spans f) own))
+            (lefts_written n from (number k at f) d.left (front_empty (decl_spans d.left) (phrase_spans f) own))
             (rest.defined (from + length d.left));
       }
 

@@ -3,6 +3,7 @@ use Rattle.std.proofs.Common.{◌≡◌, ◌+◌, ◌↔◌, ℕ, List, [], ◌+
 use Rattle.std.proofs.lemmas.Option.{slice_get-map}
 use Rattle.std.specs.List.{flat_map}
 use Rattle.lucy_word.specs.Bits.{Bits}
+use Rattle.lucy_word.proofs.Lists.{front_empty, back_empty}
 use Rattle.lucy_host.specs.Operators.{Operator}
 use Rattle.lucy_tree.specs.View.{NodeTree, ProgramTree}
 use Rattle.lucy_tree.specs.Shaped.{IsShapedNode, IsShapedProgram}
@@ -22,7 +23,7 @@ use Rattle.lucy_naming.proofs.EachLaws.{each_front, each_back, each_one}
 use Rattle.lucy_naming.proofs.Spread.{Call}
 use Rattle.lucy_naming.proofs.CallLaws.{def_made, def_sites_are}
 use Rattle.lucy_naming.proofs.Good.{Callee}
-use Rattle.lucy_naming.proofs.WrittenPhrases.{no_spans, spans_front, spans_back, IsOperandNamed, WrittenPlace, WrittenCall, any_buffers, written_join}
+use Rattle.lucy_naming.proofs.WrittenPhrases.{no_spans, IsOperandNamed, WrittenPlace, WrittenCall, any_buffers, written_join}
 use Rattle.lucy_naming.proofs.NodeParts.{start, behind_params, reach_params, reach_defined, known, node_lies, rights_lie, node_set}
 use Rattle.lucy_naming.proofs.NodeFaults.{defs_faultless}
 use Rattle.lucy_naming.proofs.ProperNodes.{call_one}
@@ -56,9 +57,9 @@ module _ (ops : List Operator) (all above : ProgramTree) (t : NodeTree) (placed 
   -- where no span keeps it from being so, a node is written
   node_written : unwritten_spans t ≡ [] → IsWritten n
   node_written spans =
-      let defs = defs_written w n (known ops all above t) (first_next t) t.defs shape (defs_faultless ops all above t good) (spans_back (decl_spans t.params) (flat_map def_spans t.defs) spans) in
+      let defs = defs_written w n (known ops all above t) (first_next t) t.defs shape (defs_faultless ops all above t good) (back_empty (decl_spans t.params) (flat_map def_spans t.defs) spans) in
       let whole = written_join n (start ops all above t) (behind_params ops all above t) ps (ds ++ rs) [] cs (reach_params ops all above t)
-      (record { places = params_written n 1 t.params (spans_front (decl_spans t.params) (flat_map def_spans t.defs) spans); buffers = any_buffers 1 _; calls = tt })
+      (record { places = params_written n 1 t.params (front_empty (decl_spans t.params) (flat_map def_spans t.defs) spans); buffers = any_buffers 1 _; calls = tt })
       (written_join n (behind_params ops all above t) (first_next t) ds rs [] cs (reach_defined ops all above t)
       (record { places = defs.defined (length t.params + 1); buffers = any_buffers 1 _; calls = tt })
       defs.rights) in

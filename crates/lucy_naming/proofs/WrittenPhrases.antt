@@ -1,6 +1,7 @@
 -- Where no span keeps an expression from being written, its operands and arguments have names and its calls their words.
 use Rattle.std.proofs.Common.{◌≡◌, ◌+◌, ℕ, zero, suc, List, [], ◌∷◌, ◌++◌, length, Option, Some, None, true, slice_index_or, refl, ap, ◌∙◌, subst, arith}
 use Rattle.lucy_word.specs.Bits.{Bits}
+use Rattle.lucy_word.proofs.Lists.{front_empty, back_empty}
 use Rattle.lucy_tree.specs.declared.span.Span.{Span}
 use Rattle.lucy_tree.specs.declared.span.Name.{Name}
 use Rattle.lucy_place.specs.declared.entry.PlaceEntry.{PlaceEntry}
@@ -18,21 +19,12 @@ use Rattle.lucy_naming.proofs.EachLaws.{Each}
 use Rattle.lucy_naming.proofs.Spread.{Call, Spread, Reaches, spread_join}
 use Rattle.lucy_naming.proofs.CallLaws.{made, all_made, own_made, reaches_own, reaches_phrase}
 use Rattle.lucy_naming.proofs.ShapeLaws.{Takes, HasShape, HaveShape, count_numbers}
-use Rattle.lucy_naming.proofs.VerdictLaws.{none_front, none_back}
 use Rattle.lucy_naming.proofs.Good.{known_of}
 use Rattle.lucy_naming.proofs.OwnPlaces.{unless_holds}
 
 -- no spans of the one, none of the other
 pub no_spans : {xs ys : List Span} → xs ≡ [] → ys ≡ [] → xs ++ ys ≡ []
 no_spans {ys = ys} a b = ap (λ l. l ++ ys) a ∙ b
-
-pub spans_front : (xs ys : List Span) → xs ++ ys ≡ [] → xs ≡ []
-spans_front [] ys h = refl
-spans_front (x ∷ xs) ys h = cc
-
-pub spans_back : (xs ys : List Span) → xs ++ ys ≡ [] → ys ≡ []
-spans_back [] ys h = h
-spans_back (x ∷ xs) ys h = cc
 
 -- a word that isn't lacking is there
 pub has_word : (word : Option Bits) (span : Span) → lacking word span ≡ [] → (w : Bits) × (word ≡ Some w)
@@ -91,7 +83,7 @@ module _ (w : Within) (n : PlacedNode) (known : (t : List ℕ) → is_in w.strea
   names_written : (at : Next) (fs : Phrases) → phrases_faults w fs ≡ [] → unnamed_spans fs ≡ [] → AreNamed n (numbers k at fs)
   names_written at none good h = tt
   names_written at (and (name t) fs) good h =
-      (known t.text (unless_holds _ _ (none_front (phrase_faults w 1 (name t)) (phrases_faults w fs) good)), names_written (past at 1 (name t)) fs (none_back (phrase_faults w 1 (name t)) (phrases_faults w fs) good) h)
+      (known t.text (unless_holds _ _ (front_empty (phrase_faults w 1 (name t)) (phrases_faults w fs) good)), names_written (past at 1 (name t)) fs (back_empty (phrase_faults w 1 (name t)) (phrases_faults w fs) good) h)
   names_written at (and (headed h0 span gs) fs) good h = cc
 
   own_written : (at : Next) (r : ℕ) (h : Head) (args : List ℕ) (fs : Phrases) → Takes h (length args) → (unnamed_spans fs ≡ [] → AreNamed n args) → own_spans h fs ≡ [] →
@@ -106,7 +98,7 @@ module _ (w : Within) (n : PlacedNode) (known : (t : List ℕ) → is_in w.strea
   own_written at r (Called f base) args fs takes named h = record {
     places = results_written n at.place at.call 0 r;
     buffers = any_buffers at.buffer _;
-    calls = (record { base = has_word base f.span (spans_front (lacking base f.span) (unnamed_spans fs) h); arguments = named (spans_back (lacking base f.span) (unnamed_spans fs) h) }, tt);
+    calls = (record { base = has_word base f.span (front_empty (lacking base f.span) (unnamed_spans fs) h); arguments = named (back_empty (lacking base f.span) (unnamed_spans fs) h) }, tt);
   }
 
   mutual
@@ -116,15 +108,15 @@ module _ (w : Within) (n : PlacedNode) (known : (t : List ℕ) → is_in w.strea
         let in_ : Next = inside at r h in
         let args : List ℕ = numbers k in_ fs in
         let same : count fs ≡ length args = count_numbers k in_ fs in
-        let rest_good = none_back (head_faults w r (count fs) h) (phrases_faults w fs) good in
+        let rest_good = back_empty (head_faults w r (count fs) h) (phrases_faults w fs) good in
         written_join n at in_ (own_entries k at r h args) (all_entries k in_ fs) (own_made k at r h args) (all_made k in_ fs) (reaches_own k at r h args)
-        (own_written at r h args fs (subst (Takes h) same shape.0) (names_written in_ fs rest_good) (spans_front (own_spans h fs) (phrases_spans fs) spans))
-        (all_written in_ fs shape.1 rest_good (spans_back (own_spans h fs) (phrases_spans fs) spans))
+        (own_written at r h args fs (subst (Takes h) same shape.0) (names_written in_ fs rest_good) (front_empty (own_spans h fs) (phrases_spans fs) spans))
+        (all_written in_ fs shape.1 rest_good (back_empty (own_spans h fs) (phrases_spans fs) spans))
 
     all_written : (at : Next) (fs : Phrases) → HaveShape fs → phrases_faults w fs ≡ [] → phrases_spans fs ≡ [] → AllWritten n at (all_entries k at fs) (all_made k at fs)
     all_written at none shape good spans = record { places = tt; buffers = tt; calls = tt }
     all_written at (and f fs) shape good spans =
         let next : Next = past at 1 f in
         written_join n at next (entries k at 1 f) (all_entries k next fs) (made k at 1 f) (all_made k next fs) (reaches_phrase k at 1 f)
-        (phrase_written at 1 f shape.0 (none_front (phrase_faults w 1 f) (phrases_faults w fs) good) (spans_front (phrase_spans f) (phrases_spans fs) spans))
-        (all_written next fs shape.1 (none_back (phrase_faults w 1 f) (phrases_faults w fs) good) (spans_back (phrase_spans f) (phrases_spans fs) spans))
+        (phrase_written at 1 f shape.0 (front_empty (phrase_faults w 1 f) (phrases_faults w fs) good) (front_empty (phrase_spans f) (phrases_spans fs) spans))
+        (all_written next fs shape.1 (back_empty (phrase_faults w 1 f) (phrases_faults w fs) good) (back_empty (phrase_spans f) (phrases_spans fs) spans))

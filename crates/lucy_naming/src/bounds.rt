@@ -6,12 +6,11 @@ ghost use Rattle.lucy_naming.specs.Numbering.{bounds, all_bounds};
 ghost use Rattle.lucy_naming.specs.Nodes.{def_bounds};
 
 use lucy_tree::{Def, Expr};
-use lucy_word::OutOfMemory;
-use std::alloc::Global;
+use std::alloc::{AllocError, Global};
 
 // Puts the bounds of an expression's buffers last.
 #[cycle(bounds)]
-fn expr_bounds(expr: &Expr, list: &mut Vec<Option<u64>>) -> Result<(), OutOfMemory>
+fn expr_bounds(expr: &Expr, list: &mut Vec<Option<u64>>) -> Result<(), AllocError>
     ensures { OnOk result (list.new.items ≡ list.old.items ++ bounds (expr_phrase expr.now)) }
 {
     match expr {
@@ -35,7 +34,7 @@ fn expr_bounds(expr: &Expr, list: &mut Vec<Option<u64>>) -> Result<(), OutOfMemo
 
 // Puts the bounds of the operands' buffers last.
 #[cycle(bounds)]
-fn all_bounds(exprs: &[Expr], list: &mut Vec<Option<u64>>) -> Result<(), OutOfMemory>
+fn all_bounds(exprs: &[Expr], list: &mut Vec<Option<u64>>) -> Result<(), AllocError>
     ensures { OnOk result (list.new.items ≡ list.old.items ++ all_bounds (expr_phrases exprs.now)) }
 {
     'each: for expr in exprs {
@@ -45,7 +44,7 @@ fn all_bounds(exprs: &[Expr], list: &mut Vec<Option<u64>>) -> Result<(), OutOfMe
 }
 
 /// The bounds of the buffers of right sides, in order of the text.
-pub(crate) fn bounds(alloc: Global, defs: &[Def]) -> Result<Vec<Option<u64>>, OutOfMemory>
+pub(crate) fn bounds(alloc: Global, defs: &[Def]) -> Result<Vec<Option<u64>>, AllocError>
     ensures { IfOk result (λ v. v.items ≡ def_bounds (map def_tree defs.now)) }
 {
     let mut list = Vec::new(alloc);

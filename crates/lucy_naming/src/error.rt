@@ -40,11 +40,3 @@ impl<T: Drop> From<AllocFailed<T>> for NameError {
         NameError::OutOfMemory
     }
 }
-
-impl From<lucy_word::OutOfMemory> for NameError {
-    ghost from_gives = { λ _ e. e ≡ error.OutOfMemory };
-
-    fn from(_: lucy_word::OutOfMemory) -> Self {
-        NameError::OutOfMemory
-    }
-}

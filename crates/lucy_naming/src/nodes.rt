@@ -22,10 +22,9 @@ use crate::steps::{copy, stream_place};
 use lucy_place::{Bounds, CallSite, Calls, Numbers, PlaceEntry, PlaceKind, PlacedNode, Places};
 use lucy_text::Text;
 use lucy_tree::{Decl, Def, Name, Node};
-use lucy_word::OutOfMemory;
-use std::alloc::Global;
+use std::alloc::{AllocError, Global};
 
-fn copy_name(alloc: Global, name: &Name) -> Result<Name, OutOfMemory>
+fn copy_name(alloc: Global, name: &Name) -> Result<Name, AllocError>
     ensures { IfOk result (λ copy. copy ≡ name.now) }
 {
     let text = Text::new(alloc, name.text.bytes())?;
@@ -36,7 +35,7 @@ fn copy_name(alloc: Global, name: &Name) -> Result<Name, OutOfMemory>
 }
 
 // The place of a name that is declared.
-fn declared_entry(alloc: Global, decl: &Decl, kind: PlaceKind) -> Result<PlaceEntry, OutOfMemory>
+fn declared_entry(alloc: Global, decl: &Decl, kind: PlaceKind) -> Result<PlaceEntry, AllocError>
     ensures { IfOk result (λ entry. entry ≡ declared_entry kind decl.now) }
 {
     let name = copy_name(alloc, &decl.name)?;
@@ -50,7 +49,7 @@ fn declared_entry(alloc: Global, decl: &Decl, kind: PlaceKind) -> Result<PlaceEn
 }
 
 // Puts the places of parameters last.
-fn params(alloc: Global, decls: &[Decl], named: &mut Vec<PlaceEntry>) -> Result<(), OutOfMemory>
+fn params(alloc: Global, decls: &[Decl], named: &mut Vec<PlaceEntry>) -> Result<(), AllocError>
     ensures { OnOk result (named.new.items ≡ named.old.items ++ map (declared_entry kind.Param) decls.now) }
 {
     'each: for decl in decls {
@@ -65,7 +64,7 @@ fn lefts(
     decls: &[Decl],
     right: u32,
     named: &mut Vec<PlaceEntry>,
-) -> Result<(), OutOfMemory>
+) -> Result<(), AllocError>
     requires { right + length decls.now < 2 ^ 32 }
     ensures { OnOk result (named.new.items ≡ named.old.items ++ left_entries right decls.now) }
 {
@@ -84,7 +83,7 @@ fn def_places(
     def: &Def,
     named: &mut Vec<PlaceEntry>,
     draft: &mut Draft,
-) -> Result<(), OutOfMemory>
+) -> Result<(), AllocError>
     requires few { length names.now.streams.now ≤ most_places }
     requires nodes { length names.now.nodes.now < 2 ^ 32 }
     requires lefts { length def.now.left ≤ most_places }
@@ -110,7 +109,7 @@ fn all_defs(
     defs: &[Def],
     named: &mut Vec<PlaceEntry>,
     draft: &mut Draft,
-) -> Result<(), OutOfMemory>
+) -> Result<(), AllocError>
     requires few { length names.now.streams.now ≤ most_places }
     requires nodes { length names.now.nodes.now < 2 ^ 32 }
     requires lefts { length (def_names (map def_tree defs.now)) ≤ most_places }
@@ -127,7 +126,7 @@ fn all_defs(
 }
 
 // The places of results.
-fn results(alloc: Global, names: &Names<'_, '_>, list: &[Name]) -> Result<Vec<u32>, OutOfMemory>
+fn results(alloc: Global, names: &Names<'_, '_>, list: &[Name]) -> Result<Vec<u32>, AllocError>
     requires few { length names.now.streams.now ≤ most_places }
     ensures { IfOk result (λ v. v.items ≡ map (λ r. stream_place (known_of names.now) r.text) list.now) }
 {
@@ -139,7 +138,7 @@ fn results(alloc: Global, names: &Names<'_, '_>, list: &[Name]) -> Result<Vec<u3
 }
 
 // The numbers of the buffers among places.
-fn buffers(alloc: Global, places: &[PlaceEntry]) -> Result<Vec<u32>, OutOfMemory>
+fn buffers(alloc: Global, places: &[PlaceEntry]) -> Result<Vec<u32>, AllocError>
     requires { length places.now ≤ most_places }
     ensures { IfOk result (λ v. v.items ≡ buffer_places 1 places.now) }
 {
@@ -157,7 +156,7 @@ fn entries(
     alloc: Global,
     names: &Names<'_, '_>,
     node: &Node,
-) -> Result<(Vec<PlaceEntry>, Vec<CallSite>), OutOfMemory>
+) -> Result<(Vec<PlaceEntry>, Vec<CallSite>), AllocError>
     requires nodes { length names.now.nodes.now < 2 ^ 32 }
     requires streams { names.now.streams.now ≡ map text_of (streams (node_tree node.now)) }
     requires shaped { IsShapedNode (node_tree node.now) }
@@ -182,7 +181,7 @@ pub(crate) fn node_places(
     alloc: Global,
     names: &Names<'_, '_>,
     node: &Node,
-) -> Result<PlacedNode, OutOfMemory>
+) -> Result<PlacedNode, AllocError>
     requires few { length names.now.nodes.now < 2 ^ 32 }
     requires streams { names.now.streams.now ≡ map text_of (streams (node_tree node.now)) }
     requires shaped { IsShapedNode (node_tree node.now) }

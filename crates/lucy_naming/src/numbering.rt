@@ -17,8 +17,8 @@ use crate::steps::{
 };
 use lucy_place::{Numbers, PlaceKind};
 use lucy_tree::{Expr, Name};
-use lucy_word::{OutOfMemory, Word};
-use std::alloc::Global;
+use lucy_word::Word;
+use std::alloc::{AllocError, Global};
 
 /// Numbers the places of an expression, which has so many results where it is a call, and answers its number.
 #[cycle(numbering)]
@@ -28,7 +28,7 @@ pub(crate) fn expr_places(
     expr: &Expr,
     results: usize,
     draft: &mut Draft,
-) -> Result<u32, OutOfMemory>
+) -> Result<u32, AllocError>
     requires few { length names.now.streams.now ≤ most_places }
     requires nodes { length names.now.nodes.now < 2 ^ 32 }
     requires shaped { IsShaped (tree_of expr.now) }
@@ -58,7 +58,7 @@ fn form_places(
     names: &Names<'_, '_>,
     expr: &Expr,
     draft: &mut Draft,
-) -> Result<u32, OutOfMemory>
+) -> Result<u32, AllocError>
     requires few { length names.now.streams.now ≤ most_places }
     requires nodes { length names.now.nodes.now < 2 ^ 32 }
     requires plain { IsPlain (expr_phrase expr.now) }
@@ -81,7 +81,7 @@ fn operand_places(
     names: &Names<'_, '_>,
     expr: &Expr,
     draft: &mut Draft,
-) -> Result<PlaceKind, OutOfMemory>
+) -> Result<PlaceKind, AllocError>
     requires few { length names.now.streams.now ≤ most_places }
     requires nodes { length names.now.nodes.now < 2 ^ 32 }
     requires plain { IsPlain (expr_phrase expr.now) }
@@ -135,7 +135,7 @@ fn call_places(
     list: &[Expr],
     results: usize,
     draft: &mut Draft,
-) -> Result<u32, OutOfMemory>
+) -> Result<u32, AllocError>
     requires few { length names.now.streams.now ≤ most_places }
     requires nodes { length names.now.nodes.now < 2 ^ 32 }
     requires shaped { AreShaped (trees_of (map tree_of list.now)) }
@@ -161,7 +161,7 @@ fn all_places(
     names: &Names<'_, '_>,
     list: &[Expr],
     draft: &mut Draft,
-) -> Result<Vec<u32>, OutOfMemory>
+) -> Result<Vec<u32>, AllocError>
     requires few { length names.now.streams.now ≤ most_places }
     requires nodes { length names.now.nodes.now < 2 ^ 32 }
     requires shaped { AreShaped (trees_of (map tree_of list.now)) }

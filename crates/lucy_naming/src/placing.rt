@@ -24,8 +24,8 @@ use crate::unwritten::first_unwritten;
 use lucy_host::Ops;
 use lucy_place::{Placed, PlacedNode};
 use lucy_tree::{Def, Node, Program, Span};
-use lucy_word::{Limit, OutOfMemory};
-use std::alloc::Global;
+use lucy_word::Limit;
+use std::alloc::{AllocError, Global};
 
 // The names that right sides of definitions use.
 fn def_names(names: &Names<'_, '_>, defs: &[Def]) -> Result<(), NameError>
@@ -95,7 +95,7 @@ fn keep<'p>(
     spans: &mut Vec<Option<Span>>,
     placed: PlacedNode,
     node: &'p Node,
-) -> Result<(), OutOfMemory>
+) -> Result<(), AllocError>
     ensures names { OnOk result (scope.new ≡ (if is_in scope.old node.now.name.text then scope.old else scope.old ++ node.now.name.text ∷ [])) }
     ensures list { OnOk result (list.new.items ≡ list.old.items ++ placed ∷ []) }
     ensures spans { OnOk result (spans.new.items ≡ spans.old.items ++ first_unwritten (node_tree node.now) ∷ []) }

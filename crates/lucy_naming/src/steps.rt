@@ -13,11 +13,11 @@ use crate::draft::Draft;
 use crate::names::Names;
 use lucy_place::{CallSite, Numbers, PlaceEntry, PlaceKind};
 use lucy_tree::{Expr, Name};
-use lucy_word::{OutOfMemory, Word, WordError, complement};
-use std::alloc::Global;
+use lucy_word::{Word, turned};
+use std::alloc::{AllocError, Global};
 
 /// A word, where one is written.
-pub(crate) fn copy(alloc: Global, word: &Option<Word>) -> Result<Option<Word>, OutOfMemory>
+pub(crate) fn copy(alloc: Global, word: &Option<Word>) -> Result<Option<Word>, AllocError>
     ensures { IfOk result (λ copy. copy ≡ word.now) }
 {
     match word {
@@ -27,18 +27,14 @@ pub(crate) fn copy(alloc: Global, word: &Option<Word>) -> Result<Option<Word>, O
 }
 
 // The word of `when`, or with `flip` the complement of the word of `whenot`.
-fn sampling_word(alloc: Global, flip: bool, word: &Word) -> Result<Word, OutOfMemory>
+fn sampling_word(alloc: Global, flip: bool, word: &Word) -> Result<Word, AllocError>
     requires zero { flip ≡ true → HasZero word.now }
     ensures { IfOk result (λ w. w ≡ sampling_word flip word.now) }
 {
     if !flip {
         return word.copy(alloc);
     }
-    match complement(alloc, word) {
-        Ok(turned) => Ok(turned),
-        Err(WordError::OutOfMemory) => Err(OutOfMemory),
-        Err(_) => unreachable!(),
-    }
+    turned(alloc, word)
 }
 
 /// What stands at the place of a form of one operand that is no operator's, with its number as a buffer and the place of the operand.
@@ -47,7 +43,7 @@ pub(crate) fn single_kind(
     expr: &Expr,
     buffer: u32,
     operand: u32,
-) -> Result<PlaceKind, OutOfMemory>
+) -> Result<PlaceKind, AllocError>
     requires single { IsSingle (expr_phrase expr.now) }
     requires shaped { IsShaped (tree_of expr.now) }
     ensures { (k : Known) → IfOk result (λ kind. kind ≡ kind_of k buffer (expr_phrase expr.now) (operand ∷ [])) }
@@ -98,7 +94,7 @@ pub(crate) fn next_place(names: &Names<'_, '_>, draft: &Draft) -> u32
 }
 
 /// Keeps a place free for a form, which is so many buffers, and answers how many places stand before it.
-pub(crate) fn start(draft: &mut Draft, buffers: u32) -> Result<usize, OutOfMemory>
+pub(crate) fn start(draft: &mut Draft, buffers: u32) -> Result<usize, AllocError>
     requires few { draft.old.buffers + buffers < 2 ^ 32 }
     ensures at { IfOk result (λ own. own ≡ length draft.old.places.items) }
     ensures places { OnOk result (draft.new.places.items ≡ draft.old.places.items ++ unnamed kind.Param ∷ []) }
@@ -122,7 +118,7 @@ pub(crate) fn settle(draft: &mut Draft, own: usize, kind: PlaceKind)
 }
 
 // Puts the results of a call last.
-fn put_results(draft: &mut Draft, call: u32, results: usize) -> Result<(), OutOfMemory>
+fn put_results(draft: &mut Draft, call: u32, results: usize) -> Result<(), AllocError>
     requires few { results ≤ most_places + 1 }
     ensures places { OnOk result (draft.new.places.items ≡ draft.old.places.items ++ results_from call 0 results) }
     ensures calls { draft.new.calls ≡ draft.old.calls }
@@ -141,7 +137,7 @@ pub(crate) fn start_call(
     alloc: Global,
     draft: &mut Draft,
     results: usize,
-) -> Result<usize, OutOfMemory>
+) -> Result<usize, AllocError>
     requires few { results ≤ most_places + 1 }
     requires calls { length draft.old.calls.items ≤ most_places }
     ensures at { IfOk result (λ site. site ≡ length draft.old.calls.items) }
@@ -178,7 +174,7 @@ pub(crate) fn call_site(
     at: &Option<Word>,
     first: u32,
     args: Vec<u32>,
-) -> Result<CallSite, OutOfMemory>
+) -> Result<CallSite, AllocError>
     requires { length names.now.nodes.now < 2 ^ 32 }
     ensures { IfOk result (λ call. call ≡ site_of (known_of names.now) node.now at.now first args.items) }
 {

@@ -4,7 +4,6 @@ use Rattle.lucy_word.specs.Bits.{Bits, IsWord}
 use Rattle.lucy_word.specs.Sampling.{IsOn}
 use Rattle.lucy_word.specs.Adaptable.{IsAdaptable}
 use Rattle.lucy_word.specs.Shortest.{Same}
-use Rattle.lucy_word.specs.Making.{IsMade}
 use Rattle.lucy_word.proofs.ShortLaws.{same_sym, shortest_one}
 use Rattle.lucy_word.specs.Always.{always}
 use Rattle.lucy_word.proofs.AdaptableLaws.{adaptable_same}
@@ -13,11 +12,6 @@ use Rattle.lucy_need.specs.declared.need.Term.{Term}
 use Rattle.lucy_need.specs.declared.need.Need.{Need}
 use Rattle.lucy_need.specs.declared.need.Need.TheVariants.{Equal, Adapt}
 use Rattle.lucy_need.specs.Meeting.{Assignment, Agree, alone, term, IsTermWord, AreAdaptable, AreEqual, Meets, IsWithin}
-
--- (1) is the only word in shortest form with its bits
-pub always_only : (bits w : Bits) → bits ≡ always → IsMade bits w → w ≡ always
-always_only bits w e made =
-    shortest_one w always made.form.shortest always_shortest made.form.nonempty (omega arith) (same_sym always w (subst (λ b. Same b w) e made.form.same))
 
 -- two words of one term have the same bits
 pub one_term : (w : Assignment) (t : Term) (u v : Bits) → IsTermWord w t u → IsTermWord w t v → Same u v

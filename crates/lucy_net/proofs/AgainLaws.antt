@@ -1,12 +1,12 @@
 -- Past all prefixes an instant is alike to the one a hyperperiod later.
-use Rattle.std.proofs.Common.{ℕ, suc, zero, ◌+◌, ◌-◌, ◌*◌, ◌/◌, ◌<◌, ◌≤◌, ◌≡◌, Bool, true, false, cond, List, [], length, get_or, drop, ap, sym, refl, ◌∙◌, subst, inl, inr, arith}
+use Rattle.std.proofs.Common.{ℕ, suc, zero, ◌+◌, ◌-◌, ◌*◌, ◌/◌, ◌<◌, ◌≤◌, ◌≡◌, true, false, cond, List, [], length, get_or, drop, ap, sym, refl, ◌∙◌, subst, inl, inr, arith}
 use Rattle.std.specs.Prelude.{Option, Some, None, slice_get}
 use Rattle.std.proofs.Math.Nat.{mul-div_cancel}
 use Rattle.std.proofs.lemmas.Bool.{cases_Bool}
 use Rattle.std.proofs.lemmas.List.{drop_at}
 use Rattle.std.proofs.lemmas.List.Elements.{All-get_or}
 use Rattle.lucy_word.specs.Bits.{Bits, bit_at, one_if, ones_to, ones_in}
-use Rattle.lucy_word.proofs.BitsLaws.{ones_to-more, ones_to-turns}
+use Rattle.lucy_word.proofs.BitsLaws.{ones_to-more, ones_to-turns, same_bit}
 use Rattle.lucy_word.proofs.SamplingLaws.{bit_at-periods}
 use Rattle.lucy_stream.specs.Forms.{Kept, Merged, operands}
 use Rattle.lucy_stream.specs.Firings.{gave_in, took_in}
@@ -22,12 +22,7 @@ use Rattle.lucy_net.specs.Turning.{IsSteady, Turns, IsTurning}
 use Rattle.lucy_stream.proofs.OperationLaws.{firing_alike}
 use Rattle.lucy_net.proofs.NetLaws.{task_at, plugged, wired, ring_cases, from_here, to_here, write_counts, read_counts, given_by_word, taken_by_word, given_past, taken_past, gives_there, takes_there}
 use Rattle.lucy_net.proofs.SlotLaws.{slot_more, done_more}
-
-same_bit : (b c : Bool) → one_if b ≡ one_if c → b ≡ c
-same_bit true true e = refl
-same_bit false false e = refl
-same_bit true false e = absurd (omega arith)
-same_bit false true e = absurd (omega arith)
+use Rattle.lucy_net.proofs.InstantLaws.{held_ring}
 
 -- where the firing word has a one, the word that samples is read by the sampled word's bit
 kept_bit : (firing word write : Bits) (t : ℕ) → bit_at firing (t + 1) ≡ true → ((n : ℕ) → ones_to word (ones_to firing n) ≡ ones_to write n) → bit_at word (ones_to firing t + 1) ≡ bit_at write (t + 1)
@@ -37,15 +32,12 @@ kept_bit firing word write t h is =
     let e : ones_to word (ones_to firing (t + 1)) ≡ ones_to word (ones_to firing t + 1) = ap (ones_to word) z in
     same_bit (bit_at word (ones_to firing t + 1)) (bit_at write (t + 1)) (omega (arith, is t, is (t + 1), ones_to-more word (ones_to firing t), ones_to-more write t))
 
-some_ring : (net : Net) (r : ℕ) → r < length net.rings → (ring : RingSpec) × (slice_get net.rings r ≡ Some ring)
-some_ring net r l = elim (ring_cases net r) [ inl x ↦ x | inr past ↦ absurd (omega arith) ]
-
 word_bit : (net : Net) (t u a : ℕ) (actor : Actor) (word : Bits) → IsProper net → IsSteady net t u → slice_get net.actors a ≡ Some actor → bit_at actor.firing (t + 1) ≡ true → bit_at actor.firing (u + 1) ≡ true →
     form_of actor.kind ≡ Kept word → 0 < length actor.gives → bit_at word (ones_to actor.firing t + 1) ≡ bit_at word (ones_to actor.firing u + 1)
 word_bit net t u a actor word is steady e h k form some =
     let p : IsProperActor net a actor = is.actors a actor e in
     let g : ℕ = get_or actor.gives 0 0 in
-    let x = some_ring net g (All-get_or (λ r. r < length net.rings) actor.gives 0 0 some (gives_there net a actor p)) in
+    let x = held_ring net g (All-get_or (λ r. r < length net.rings) actor.gives 0 0 some (gives_there net a actor p)) in
     let ring : RingSpec = x.0 in
     let here : IsProperRing net g ring = is.rings g ring x.1 in
     let from : ring.from ≡ a = sym (from_here net g ring x.1) ∙ All-get_or (λ r. giver net r ≡ a) actor.gives 0 0 some ((plugged net 0 is) a (task_of 0 actor) (task_at net 0 a actor e)).gives in
@@ -62,7 +54,7 @@ merge_bit net t u a actor word is steady e h k form =
     let two : operands (form_of actor.kind) ≡ 2 = ap operands form in
     let some : 0 < length actor.takes = omega (arith, p.arity) in
     let r : ℕ = get_or actor.takes 0 0 in
-    let x = some_ring net r (All-get_or (λ s. s < length net.rings) actor.takes 0 0 some (takes_there net a actor p)) in
+    let x = held_ring net r (All-get_or (λ s. s < length net.rings) actor.takes 0 0 some (takes_there net a actor p)) in
     let ring : RingSpec = x.0 in
     let here : IsProperRing net r ring = is.rings r ring x.1 in
     let to : ring.to ≡ a = sym (to_here net r ring x.1) ∙ All-get_or (λ s. taker net s ≡ a) actor.takes 0 0 some ((plugged net 0 is) a (task_of 0 actor) (task_at net 0 a actor e)).takes in

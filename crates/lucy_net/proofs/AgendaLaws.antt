@@ -7,7 +7,7 @@ use Rattle.std.proofs.lemmas.Option.{slice_get_within, get_or_from_slice_get}
 use Rattle.lucy_word.specs.Bits.{Bits, bit_at, one_if, ones_to}
 use Rattle.lucy_word.specs.Index.{IsIndex}
 use Rattle.lucy_word.proofs.BitsLaws.{ones_to-none, ones_to-more}
-use Rattle.lucy_word.proofs.ShortLaws.{ones_to-later}
+use Rattle.lucy_word.proofs.IndexLaws.{ones_to-rises}
 use Rattle.lucy_net.specs.declared.net.Actor.{Actor}
 use Rattle.lucy_net.specs.declared.net.Net.{Net}
 use Rattle.lucy_net.specs.Proper.{numbers_where, IsProper}
@@ -30,9 +30,6 @@ pub more_empty : {Z : Type 0} (rows more : List (Vec ℕ Z)) (row : Vec ℕ Z) �
 more_empty rows more row e none empty t =
     ap (λ l. get_or (rows_of l) t []) e ∙ ap (λ l. get_or l t []) (map-append (λ v. v.items) rows (row ∷ [])) ∙ all_empty (rows_of rows) row.items none empty t
 
-later : (w : Bits) (i k : ℕ) → i ≤ k → ones_to w i ≤ ones_to w k
-later w i k l = (let e : ones_to w (i + (k - i)) ≡ ones_to w k = ap (ones_to w) (omega arith) in omega (arith, ones_to-later w i (k - i)))
-
 pub place_some : (w : Bits) (j i : ℕ) → 1 ≤ j → IsIndex w j i → 1 ≤ i
 place_some w j i l is = elim (cases_eq i 0) [
   | inl none ↦ absurd (let e : ones_to w i ≡ ones_to w 0 = ap (ones_to w) none in omega (arith, ones_to-none w, is.there))
@@ -42,7 +39,7 @@ place_some w j i l is = elim (cases_eq i 0) [
 pub place_within : (w : Bits) (j i n : ℕ) → j ≤ ones_to w n → IsIndex w j i → i ≤ n
 place_within w j i n l is = elim (cases_lt n i) [
   | inr x ↦ x
-  | inl x ↦ absurd (omega (arith, is.first n (omega (arith, later w n i (omega arith), is.there))))
+  | inl x ↦ absurd (omega (arith, is.first n (omega (arith, ones_to-rises w n i (omega arith), is.there))))
 ]
 
 place_bit : (w : Bits) (j i : ℕ) → 1 ≤ j → IsIndex w j i → bit_at w (i - 1 + 1) ≡ true
@@ -57,7 +54,7 @@ place_bit w j i l is = elim (cases_Bool (bit_at w (i - 1 + 1))) [
 place_one : (w : Bits) (j i t : ℕ) → IsIndex w j i → bit_at w (t + 1) ≡ true → ones_to w (t + 1) ≡ j → t + 1 ≡ i
 place_one w j i t is h e = elim (cases_lt i (t + 1)) [
   | inr x ↦ omega (arith, is.first (t + 1) e)
-  | inl x ↦ absurd (let o : one_if (bit_at w (t + 1)) ≡ 1 = ap one_if h in omega (arith, later w i t (omega arith), is.there, ones_to-more w t))
+  | inl x ↦ absurd (let o : one_if (bit_at w (t + 1)) ≡ 1 = ap one_if h in omega (arith, ones_to-rises w i t (omega arith), is.there, ones_to-more w t))
 ]
 
 abbrev entry : Actor → ℕ → ℕ → ℕ → List ℕ
@@ -125,7 +122,7 @@ gathered_more net number n actor rows new is here some len are h t l =
     let inside : t < length rows = omega (arith, are.count) in
     elim (cases_Bool (bit_at actor.firing (t + 1))) [
       | inl on ↦
-          are.each t inside ∙ ap (λ xs. get_or rows t [] ++ xs) (entry_on actor number (ones_to actor.firing n) t on (later actor.firing (t + 1) n (omega arith)))
+          are.each t inside ∙ ap (λ xs. get_or rows t [] ++ xs) (entry_on actor number (ones_to actor.firing n) t on (ones_to-rises actor.firing (t + 1) n (omega arith)))
           ∙ ap (λ xs. xs ++ number ∷ []) (h t inside) ∙ sym (where_yes (is_busy net t) number (busy_here net t number actor here ∙ busy_yes actor t (is.actors number actor here).arity some on))
       | inr off ↦
           are.each t inside ∙ ap (λ xs. get_or rows t [] ++ xs) (entry_off actor number (ones_to actor.firing n) t off) ∙ append-nil (get_or rows t [])

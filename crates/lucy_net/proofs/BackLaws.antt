@@ -10,10 +10,10 @@ use Rattle.lucy_word.proofs.BitsLaws.{ones_to-le}
 use Rattle.lucy_stream.specs.Items.{list_at}
 use Rattle.lucy_stream.specs.Iterates.{Place, iterate}
 use Rattle.lucy_stream.specs.Firings.{gave_in}
-use Rattle.lucy_stream.specs.Needs.{Item, Needs, IsWalk, ReachesItself}
+use Rattle.lucy_stream.specs.Needs.{StreamItem, Needs, IsWalk, ReachesItself}
 use Rattle.lucy_stream.proofs.NeedLaws.{no_cycle}
 use Rattle.lucy_stream.specs.Runs.{IsWhole}
-use Rattle.lucy_stream.specs.Plans.{Task, link_at, times, HasInput, IsFed, QuotasWithin, GiveBelow, IsRunnable, place_of, places_of}
+use Rattle.lucy_stream.specs.Plans.{Task, times, HasInput, IsFed, QuotasWithin, GiveBelow, IsRunnable, place_of, places_of}
 use Rattle.lucy_stream.proofs.KahnLaws.{kahn_whole}
 use Rattle.lucy_net.specs.declared.net.Net.{Net}
 use Rattle.lucy_net.specs.declared.net.Actor.{Actor}
@@ -23,7 +23,7 @@ use Rattle.lucy_net.specs.declared.kind.ActorKind.TheVariants.{Input, Lit, Op, H
 use Rattle.lucy_net.specs.Plans.{form_of, task_of, giver, plan, net_system}
 use Rattle.lucy_net.specs.Proper.{IsProper, IsProperRing, IsSupplied}
 use Rattle.lucy_net.specs.Causal.{actor_place, net_places, items_by}
-use Rattle.lucy_net.proofs.NetLaws.{task_at, plugged, ring_cases, from_here, given_times, takes_there}
+use Rattle.lucy_net.proofs.NetLaws.{task_at, planned, plugged, ring_cases, from_here, given_times, takes_there}
 
 -- the places of the plan are those of the net
 places_at : (net : Net) (n : ℕ) (actors : List Actor) → map (place_of (plan net n)) (map (task_of n) actors) ≡ map (actor_place net) actors
@@ -101,7 +101,7 @@ actor_from net [] i place e = cc
 actor_from net (x ∷ actors) zero place e = (x, refl, (cc))
 actor_from net (x ∷ actors) (suc i) place e = actor_from net actors i place e
 
-pub needed_is_read : (net : Net) (x y : Item) → IsProper net → Needs (net_places net) x y → IsRead net y.place
+pub needed_is_read : (net : Net) (x y : StreamItem) → IsProper net → Needs (net_places net) x y → IsRead net y.place
 needed_is_read net x y is need =
     let found = actor_from net net.actors x.place need.place need.there in
     let actor : Actor = found.0 in
@@ -117,16 +117,15 @@ needed_is_read net x y is need =
     ]
 
 -- the last step of a walk
-last_step : (places : List Place) (x end : Item) (walk : List Item) → IsWalk places x walk end → (z : Item) × Needs places z end
+last_step : (places : List Place) (x end : StreamItem) (walk : List StreamItem) → IsWalk places x walk end → (z : StreamItem) × Needs places z end
 last_step places x end [] w = (x, w)
 last_step places x end (y ∷ walk) w = last_step places y end walk w.1
 
 -- so an item that reaches itself is given on a ring
-pub reached_is_read : (net : Net) (x : Item) → IsProper net → ReachesItself (net_places net) x → IsRead net x.place
+pub reached_is_read : (net : Net) (x : StreamItem) → IsProper net → ReachesItself (net_places net) x → IsRead net x.place
 reached_is_read net x is reaches = (let last = last_step (net_places net) x x reaches.0 reaches.1 in needed_is_read net last.0 x is last.1)
 
-pub no_cycle_by : (net : Net) (n : ℕ) (order : List ℕ) (x : Item) → IsProper net → IsWhole (net_system net n) order → 1 ≤ x.number → x.number ≤ items_by (slice_get net.actors x.place) n → ReachesItself (net_places net) x → ⊥
-unfolding net_system
+pub no_cycle_by : (net : Net) (n : ℕ) (order : List ℕ) (x : StreamItem) → IsProper net → IsWhole (net_system net n) order → 1 ≤ x.number → x.number ≤ items_by (slice_get net.actors x.place) n → ReachesItself (net_places net) x → ⊥
 no_cycle_by net n order x is whole one by reaches =
     let inputs : List (List ℤ) = full net.actors n in
     let turns : ℕ = length net.actors * n in
@@ -136,10 +135,10 @@ no_cycle_by net n order x is whole one by reaches =
     let actor : Actor = here.giver in
     let source : giver net r ≡ x.place = from_here net r read.ring read.there ∙ read.from in
     let at : slice_get net.actors x.place ≡ Some actor = ap (slice_get net.actors) (sym read.from) ∙ here.gives_here in
-    let task : slice_get (plan net n).tasks (link_at (plan net n) r).from ≡ Some (task_of n actor) = ap (slice_get (plan net n).tasks) source ∙ task_at net n x.place actor at in
+    let task : slice_get (plan net n).tasks ((plan net n).from r) ≡ Some (task_of n actor) = ap (slice_get (plan net n).tasks) source ∙ task_at net n x.place actor at in
     let once : times r actor.gives ≡ 1 = given_times net r x.place read.ring actor (is.actors x.place actor at) read.there read.from in
-    let enough = kahn_whole [] inputs (plan net n) (length net.actors) n order (runnable inputs net n is (full_supplies net n)) whole r (task_of n actor) task once in
-    let places : list_at (iterate [] inputs (places_of (plan net n)) turns) (link_at (plan net n) r).from ≡ list_at (iterate [] inputs (net_places net) turns) x.place =
+    let enough = kahn_whole [] inputs (plan net n) (length net.actors) n order (runnable inputs net n is (full_supplies net n)) (subst (λ sys. IsWhole sys order) (sym (planned net n)) whole) r (task_of n actor) task once in
+    let places : list_at (iterate [] inputs (places_of (plan net n)) turns) ((plan net n).from r) ≡ list_at (iterate [] inputs (net_places net) turns) x.place =
     ap (list_at (iterate [] inputs (places_of (plan net n)) turns)) source ∙ ap (λ ps. list_at (iterate [] inputs ps turns) x.place) (same_places net n) in
     let items : items_by (slice_get net.actors x.place) n ≡ gave_in (form_of actor.kind) (ones_to actor.firing n) = ap (λ o. items_by o n) at in
     no_cycle [] inputs (net_places net) turns x one (omega (arith, enough.1, ap length places)) reaches

@@ -13,9 +13,7 @@ use Rattle.lucy_net.specs.declared.net.Actor.{Actor}
 use Rattle.lucy_net.specs.Plans.{form_of}
 use Rattle.lucy_net.specs.Lengths.{takes_each}
 use Rattle.lucy_net.specs.Instants.{slot_of, firing_of}
-
-two_lengths : (ts gs : List ℕ) → length (map Takes ts ++ map Gives gs) ≡ length ts + length gs
-two_lengths ts gs = omega (arith, length-append (map Takes ts) (map Gives gs), length-map ts Takes, length-map gs Gives)
+use Rattle.lucy_net.proofs.FiringLaws.{two_lengths, firing_some}
 
 firing_length : (form : Form) (ts gs : List ℕ) (q : ℕ) → length (firing_ops form ts gs q) + gave_in form q * length gs ≡ takes_each form (length ts) + gave_in form (suc q) * length gs
 firing_length (Kept word) ts gs q =
@@ -46,20 +44,10 @@ ops_length form ts gs zero = (let z : gave_in form 0 * length gs ≡ 0 * length 
 ops_length form ts gs (suc q) =
     omega (arith, length-append (ops_of form ts gs q) (firing_ops form ts gs q), ops_length form ts gs q, firing_length form ts gs q)
 
+-- no more are given than there are firings
 pub gave_le : (form : Form) (q : ℕ) → gave_in form q ≤ q
 gave_le (Kept word) q = ones_to-le word q
 gave_le form q = omega arith
-
--- an actor with rings that fires has something to do
-busy_firing : (form : Form) (ts gs : List ℕ) (q : ℕ) → length ts ≡ operands form → 0 < length ts + length gs → 0 < length (firing_ops form ts gs q)
-busy_firing (Kept word) ts gs q l some =
-    elim (bit_at word (q + 1)) as (λ c. 0 < length (map Takes ts ++ cond c (map Gives gs) [])) [
-      | true ↦ omega (arith, two_lengths ts gs)
-      | false ↦ (let none : List RingOp = [] in omega (arith, length-append (map Takes ts) none, length-map ts Takes))
-    ]
-busy_firing (Merged word) ts gs q l some = omega arith
-busy_firing (Delayed first) ts gs q l some = omega (arith, length-append (map Gives gs) (map Takes ts), length-map ts Takes, length-map gs Gives)
-busy_firing form ts gs q l some = omega (arith, two_lengths ts gs)
 
 idle_firing : (form : Form) (ts gs : List ℕ) (q : ℕ) → length ts ≡ operands form → length ts + length gs ≡ 0 → length (firing_ops form ts gs q) ≡ 0
 idle_firing (Kept word) ts gs q l none = absurd (omega arith)
@@ -68,7 +56,7 @@ idle_firing (Delayed first) ts gs q l none = omega (arith, length-append (map Gi
 idle_firing form ts gs q l none = omega (arith, two_lengths ts gs)
 
 pub busy_yes : (actor : Actor) (n : ℕ) → length actor.takes ≡ operands (form_of actor.kind) → 0 < length actor.takes + length actor.gives → bit_at actor.firing (n + 1) ≡ true → ltb 0 (length (slot_of n (Some actor))) ≡ true
-busy_yes actor n l some h = lt-ltb 0 (length (slot_of n (Some actor))) (subst (λ b. 0 < length (cond b (firing_of actor (ones_to actor.firing n)) [])) (sym h) (busy_firing (form_of actor.kind) actor.takes actor.gives (ones_to actor.firing n) l some))
+busy_yes actor n l some h = lt-ltb 0 (length (slot_of n (Some actor))) (subst (λ b. 0 < length (cond b (firing_of actor (ones_to actor.firing n)) [])) (sym h) (firing_some (form_of actor.kind) actor.takes actor.gives (ones_to actor.firing n) l some))
 
 pub busy_still : (actor : Actor) (n : ℕ) → bit_at actor.firing (n + 1) ≡ false → ltb 0 (length (slot_of n (Some actor))) ≡ false
 busy_still actor n h = le-ltb 0 (length (slot_of n (Some actor))) (subst (λ b. length (cond b (firing_of actor (ones_to actor.firing n)) []) ≤ 0) (sym h) (omega arith))

@@ -4,6 +4,7 @@ use Rattle.std.specs.Prelude.{Some, None, slice_get}
 use Rattle.std.proofs.lemmas.Bool.{lt-ltb, le-ltb}
 use Rattle.std.proofs.lemmas.Option.{slice_get-get_or}
 use Rattle.lucy_word.specs.Bits.{bit_at}
+use Rattle.lucy_word.proofs.Lists.{map_from}
 use Rattle.lucy_stream.specs.Forms.{Form, Given, Constant, Pointwise, Hosted, Kept, Merged, Delayed, Same, operands}
 use Rattle.lucy_stream.specs.Systems.{RingOp, Takes, Gives}
 use Rattle.lucy_stream.specs.Operations.{firing_ops}
@@ -15,16 +16,11 @@ use Rattle.lucy_net.specs.Plans.{form_of}
 use Rattle.lucy_net.specs.States.{IsUsable, IsOfActor, IsNext, end_move_at}
 use Rattle.lucy_net.proofs.StateLaws.{some_next}
 
-mapped_at : (f : ℕ → RingOp) (xs : List ℕ) (i : ℕ) (op : RingOp) → slice_get (map f xs) i ≡ Some op → (x : ℕ) × (slice_get xs i ≡ Some x) × (f x ≡ op)
-mapped_at f [] i op e = cc
-mapped_at f (x ∷ xs) zero op e = (x, refl, (cc))
-mapped_at f (x ∷ xs) (suc i) op e = mapped_at f xs i op e
-
 -- an operation of two sorts, one after the other, is of the one or of the other
 split_at : (f g : ℕ → RingOp) (xs ys : List ℕ) (i : ℕ) (op : RingOp) → slice_get (map f xs ++ map g ys) i ≡ Some op →
     ((i < length xs) × (x : ℕ) × (slice_get xs i ≡ Some x) × (f x ≡ op)) ⊎ ((length xs ≤ i) × (y : ℕ) × (slice_get ys (i - length xs) ≡ Some y) × (g y ≡ op))
 split_at f g [] ys i op e =
-    let r = mapped_at g ys i op e in
+    let r = map_from g ys i op e in
     inr (omega arith, r.0, ap (slice_get ys) (let z : i - 0 ≡ i = omega arith in z) ∙ r.1, r.2)
 split_at f g (x ∷ xs) ys zero op e = inl (omega arith, x, refl, (cc))
 split_at f g (x ∷ xs) ys (suc i) op e = elim (split_at f g xs ys i op e) [
@@ -92,7 +88,7 @@ end_take (Kept word) ts gs k i r l e =
       | false ↦ take_first ts [] i r
     ] e
 end_take (Merged word) ts gs k zero r l e = (cond (bit_at word (k + 1)) 0 1, refl, merge_take (bit_at word (k + 1)) ts r l (cc))
-end_take (Merged word) ts gs k (suc i) r l e = (let h = mapped_at Gives gs i (Takes r) e in absurd (no_take r h.0 h.2))
+end_take (Merged word) ts gs k (suc i) r l e = (let h = map_from Gives gs i (Takes r) e in absurd (no_take r h.0 h.2))
 end_take (Delayed first) ts gs k i r l e = take_second ts gs i r e
 end_take (Given input) ts gs k i r l e = take_first ts gs i r e
 end_take (Constant value) ts gs k i r l e = take_first ts gs i r e
@@ -108,7 +104,7 @@ end_give (Kept word) ts gs k i r e =
       | false ↦ λ h. absurd (give_none ts i r h)
     ] e
 end_give (Merged word) ts gs k zero r e = absurd (no_give r (cond (bit_at word (k + 1)) (get_or ts 0 0) (get_or ts 1 0)) (cc))
-end_give (Merged word) ts gs k (suc i) r e = (let h = mapped_at Gives gs i (Gives r) e in (i, refl, h.1 ∙ ap (λ (n : ℕ). Some n) (gives_same r h.0 h.2)))
+end_give (Merged word) ts gs k (suc i) r e = (let h = map_from Gives gs i (Gives r) e in (i, refl, h.1 ∙ ap (λ (n : ℕ). Some n) (gives_same r h.0 h.2)))
 end_give (Delayed first) ts gs k i r e = give_first ts gs i r e
 end_give (Given input) ts gs k i r e = give_second ts gs i r e
 end_give (Constant value) ts gs k i r e = give_second ts gs i r e

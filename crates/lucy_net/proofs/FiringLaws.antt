@@ -8,6 +8,7 @@ use Rattle.lucy_stream.specs.Systems.{RingOp, Takes, Gives}
 use Rattle.lucy_stream.specs.Operations.{firing_ops, ops_of}
 use Rattle.lucy_net.specs.States.{operand_at}
 
+-- takes and gives are as many as both
 pub two_lengths : (ts gs : List ℕ) → length (map Takes ts ++ map Gives gs) ≡ length ts + length gs
 two_lengths ts gs = omega (arith, length-append (map Takes ts) (map Gives gs), length-map ts Takes, length-map gs Gives)
 

@@ -1,10 +1,10 @@
 -- An instant is played when all its firings are.
-use Rattle.std.proofs.Common.{below_more, ℕ, suc, ◌+◌, ◌<◌, ◌≤◌, ◌≡◌, List, [], ◌∷◌, length, set, get_or, ap, sym, ◌∙◌, subst, inl, inr, arith}
+use Rattle.std.proofs.Common.{below_more, ℕ, ◌+◌, ◌<◌, ◌≤◌, ◌≡◌, List, [], length, set, ap, sym, ◌∙◌, subst, inl, inr, arith}
 use Rattle.std.specs.Prelude.{Some, slice_get, slice_index, All}
 use Rattle.std.proofs.lemmas.Bool.{cases_eq, cases_lt, lt-ltb}
 use Rattle.std.proofs.lemmas.List.{length-set, get_or-set_same, get_or-set_other, get_or_past}
 use borrow.Author.Tests.{ltb-true}
-use Rattle.std.proofs.lemmas.List.Elements.{All-get_or, All-cons, All-nil}
+use Rattle.std.proofs.lemmas.List.Elements.{All-get_or}
 use Rattle.lucy_stream.specs.Systems.{System, given, taken}
 use Rattle.lucy_stream.specs.Plans.{times, IsOperand}
 use Rattle.lucy_net.specs.declared.net.RingSpec.{RingSpec}
@@ -22,10 +22,6 @@ use Rattle.lucy_net.proofs.SlotLaws.{done_more, slot_within}
 use Rattle.lucy_stream.proofs.CountLaws.{given-same, taken-same}
 use Rattle.std.proofs.lemmas.Option.{slice_get_within}
 
-pub All-of_index : {X : Type 0} (P : X → Type 0) (xs : List X) (d : X) → ((k : ℕ) → k < length xs → P (get_or xs k d)) → All P xs
-All-of_index P [] d h = All-nil P
-All-of_index P (x ∷ xs) d h = All-cons P x xs (h 0 (omega arith)) (All-of_index P xs d (λ k l. h (suc k) (omega arith)))
-
 pub zero_here : (steps : List ℕ) (x : ℕ) → slice_index (set steps x 0) x ≡ 0
 zero_here steps x = elim (cases_lt x (length steps)) [
   | inl l ↦ get_or-set_same steps x 0 0 l
@@ -38,6 +34,7 @@ zero_set steps x a z = elim (cases_eq a x) [
   | inl same ↦ ap (slice_index (set steps x 0)) same ∙ zero_here steps x
 ]
 
+-- a ring below their count is there
 pub held_ring : (net : Net) (r : ℕ) → r < length net.rings → (ring : RingSpec) × (slice_get net.rings r ≡ Some ring)
 held_ring net r l = elim (ring_cases net r) [ inl x ↦ x | inr past ↦ absurd (omega arith) ]
 

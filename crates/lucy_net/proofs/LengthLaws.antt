@@ -1,25 +1,15 @@
 -- The lengths of more and more words.
-use Rattle.std.proofs.Common.{ℕ, ◌+◌, ◌*◌, ◌/◌, ◌<◌, ◌≤◌, ◌≡◌, max, List, [], ◌∷◌, ◌++◌, length, get_or, ap, sym, refl, subst, arith, append_assoc, append-nil}
+use Rattle.std.proofs.Common.{ℕ, ◌+◌, ◌*◌, ◌/◌, ◌<◌, ◌≤◌, ◌≡◌, max, List, [], ◌∷◌, ◌++◌, length, get_or, sym, refl, subst, arith, append_assoc, append-nil}
 use Rattle.std.specs.Prelude.{All}
 use Prim.Native.Nat.{◌∣◌}
-use Rattle.std.proofs.Math.Nat.{div-mul_cancel, dvd-mul_left}
 use Rattle.std.proofs.lemmas.List.Elements.{All-append, All-cons, All-nil, All-head, All-tail}
+use Rattle.std.proofs.lemmas.Nat.Gcd.{dvd_trans}
 use Rattle.lucy_word.specs.Bits.{Bits}
 use Rattle.lucy_word.specs.Multiple.{IsLcm}
 use Rattle.lucy_word.specs.Stored.{IsStored}
-use Rattle.lucy_word.proofs.Multiples.{gcd_exists, lcm_by_gcd, lcm_divides}
+use Rattle.lucy_word.proofs.Multiples.{gcd_exists, lcm_by_gcd, lcm_divides, divides}
 use Rattle.lucy_net.proofs.WordLaws.{front_all, back_all}
 use Rattle.lucy_net.specs.Lengths.{AreLengths}
-
-divides_by : (d k n : ℕ) → n ≡ k * d → d ∣ n
-divides_by d k n e = subst (λ u. d ∣ u) (sym e) (dvd-mul_left d k)
-
-divides_trans : (a b c : ℕ) → a ∣ b → b ∣ c → a ∣ c
-divides_trans a b c h k =
-    let e : b / a * a ≡ b = div-mul_cancel a h in
-    let f : c / b * b ≡ c = div-mul_cancel b k in
-    let g : c / b * (b / a * a) ≡ c / b * b = ap (λ t. c / b * t) e in
-    divides_by a (c / b * (b / a)) c (omega arith)
 
 -- no words
 pub lengths_none : AreLengths [] 0 1
@@ -28,7 +18,7 @@ lengths_none = record {
   prefix_least = λ n h. omega arith;
   some = omega arith;
   periods = All-nil (λ (w : Bits). length w.period ∣ 1);
-  period_least = λ n l h. divides_by 1 n n (omega arith);
+  period_least = λ n l h. divides 1 n n (omega arith);
 }
 
 -- one word more
@@ -44,7 +34,7 @@ lengths_more words w prefix period new_prefix new_period is some e lcm = record 
       omega arith;
   some = lcm.positive;
   periods = All-append (λ (v : Bits). length v.period ∣ new_period) words (w ∷ [])
-      (λ k d l. divides_trans (length (get_or words k d).period) period new_period (is.periods k d l) lcm.of_left)
+      (λ k d l. dvd_trans (length (get_or words k d).period) (is.periods k d l) lcm.of_left)
       (All-cons (λ (v : Bits). length v.period ∣ new_period) w [] lcm.of_right (All-nil (λ (v : Bits). length v.period ∣ new_period)));
   period_least = λ n l h.
       lcm_divides period (length w.period) new_period n lcm (is.period_least n l (front_all (λ (v : Bits). length v.period ∣ n) words (w ∷ []) h))

@@ -1,5 +1,5 @@
 -- Actors that wait for each other in an instant: their items depend on each other.
-use Rattle.std.proofs.Common.{ℕ, suc, zero, ◌+◌, ◌-◌, ◌<◌, ◌≤◌, ◌≡◌, true, cond, List, [], ◌∷◌, ◌++◌, map, length, get_or, take, ap, sym, refl, ◌∙◌, subst, inl, inr, arith}
+use Rattle.std.proofs.Common.{ℕ, suc, ◌+◌, ◌-◌, ◌<◌, ◌≤◌, ◌≡◌, true, cond, List, [], ◌∷◌, ◌++◌, map, length, get_or, take, ap, sym, refl, ◌∙◌, subst, inl, inr, arith}
 use Rattle.std.specs.Prelude.{count_by, Some, slice_get, slice_index, All}
 use Rattle.std.proofs.lemmas.Bool.{cases_lt, cases_Bool}
 use Rattle.std.specs.Option.{option_map}
@@ -8,6 +8,7 @@ use Rattle.std.proofs.lemmas.List.{take_all}
 use Rattle.std.proofs.lemmas.List.Elements.{All-cons, All-nil}
 use Rattle.lucy_word.specs.Bits.{bit_at, one_if, ones_to}
 use Rattle.lucy_word.proofs.BitsLaws.{ones_to-more}
+use Rattle.lucy_host.proofs.Elements.{get_there}
 use Rattle.lucy_stream.specs.Forms.{Form}
 use Rattle.lucy_stream.specs.Firings.{gave_in, took_in}
 use Rattle.lucy_stream.specs.Systems.{RingOp, Takes, System, is_give, given, taken}
@@ -22,7 +23,7 @@ use Rattle.lucy_net.specs.declared.net.Actor.{Actor}
 use Rattle.lucy_net.specs.declared.net.RingSpec.{RingSpec}
 use Rattle.lucy_net.specs.Plans.{form_of, net_system, done_by, giver, taker}
 use Rattle.lucy_net.specs.Proper.{IsProper, IsProperActor, IsProperRing}
-use Rattle.lucy_stream.specs.Needs.{IsNeed, Item, Needs, IsWalk, IsCycle}
+use Rattle.lucy_stream.specs.Needs.{IsNeed, StreamItem, Needs, IsWalk, IsCycle}
 use Rattle.lucy_net.specs.Causal.{actor_place, net_places, items_by, IsOfInstant}
 use Rattle.lucy_stream.proofs.OperationLaws.{take_needed}
 use Rattle.lucy_net.specs.declared.settle.Wait.{Wait}
@@ -56,11 +57,6 @@ given_all net n b g from =
     let old : List RingOp = (net_system net n).ops b in
     sym (given-is sys (done_by net (n + 1)) b (length (sys.ops b)) g (from_is net (n + 1) g ∙ from) refl)
     ∙ ap (count_by (is_give g)) (take_all (length (sys.ops b)) (sys.ops b) (omega arith)) ∙ ap (count_by (is_give g)) (slot_more net n b) ∙ count_append (is_give g) old (slot net n b)
-
-actor_in : (actors : List Actor) (a : ℕ) → a < length actors → (actor : Actor) × (slice_get actors a ≡ Some actor)
-actor_in [] a l = absurd (omega arith)
-actor_in (x ∷ actors) zero l = (x, refl)
-actor_in (x ∷ actors) (suc a) l = actor_in actors a (omega arith)
 
 fires_of : (n : ℕ) (actor : Actor) → 0 < length (slot_of n (Some actor)) → bit_at actor.firing (n + 1) ≡ true
 fires_of n actor l = elim (cases_Bool (bit_at actor.firing (n + 1))) [
@@ -127,7 +123,7 @@ waiting_needs net n order steps held b r g is played up from later =
     let i : ℕ = slice_index steps b in
     let inside : i < length (slot net n b) = slice_get_within (slot net n b) i (Takes r) up.takes in
     let busy : 0 < length (slot net n b) = omega arith in
-    let x = actor_in net.actors b (slot_within net n b busy) in
+    let x = get_there net.actors b (slot_within net n b busy) in
     let actor : Actor = x.0 in
     let form : Form = form_of actor.kind in
     let q : ℕ = ones_to actor.firing n in
@@ -171,17 +167,17 @@ giver_of_instant net n order steps held b r is played up =
       by_now = omega arith;
     }
 
-walk_of : (net : Net) (item : ℕ → Item) (w : Wait) (waits : List Wait) (end : Item) → ((k : ℕ) → suc k < length (w ∷ waits) → Needs (net_places net) (item (actor_at (w ∷ waits) 0 k)) (item (actor_at (w ∷ waits) 0 (suc k)))) →
+walk_of : (net : Net) (item : ℕ → StreamItem) (w : Wait) (waits : List Wait) (end : StreamItem) → ((k : ℕ) → suc k < length (w ∷ waits) → Needs (net_places net) (item (actor_at (w ∷ waits) 0 k)) (item (actor_at (w ∷ waits) 0 (suc k)))) →
     Needs (net_places net) (item (actor_at (w ∷ waits) 0 (length waits))) end → IsWalk (net_places net) (item w.actor) (map (λ (v : Wait). item v.actor) waits) end
 walk_of net item w [] end h last = last
 walk_of net item w (v ∷ waits) end h last = (h 0 (omega arith), walk_of net item v waits end (λ k l. h (suc k) (omega arith)) last)
 
-cycle_of : (net : Net) (item : ℕ → Item) (waits : List Wait) → 0 < length waits → ((k : ℕ) → suc k < length waits → Needs (net_places net) (item (actor_at waits 0 k)) (item (actor_at waits 0 (suc k)))) →
+cycle_of : (net : Net) (item : ℕ → StreamItem) (waits : List Wait) → 0 < length waits → ((k : ℕ) → suc k < length waits → Needs (net_places net) (item (actor_at waits 0 k)) (item (actor_at waits 0 (suc k)))) →
     Needs (net_places net) (item (actor_at waits 0 (length waits - 1))) (item (actor_at waits 0 0)) → IsCycle (net_places net) (map (λ (v : Wait). item v.actor) waits)
 cycle_of net item [] l h last = absurd (omega arith)
 cycle_of net item (w ∷ waits) l h last = walk_of net item w waits (item w.actor) h (subst (λ (k : ℕ). Needs (net_places net) (item (actor_at (w ∷ waits) 0 k)) (item w.actor)) (let z : length (w ∷ waits) - 1 ≡ length waits = omega arith in z) last)
 
-instant_items : (net : Net) (n : ℕ) (item : ℕ → Item) (waits : List Wait) → ((k : ℕ) → k < length waits → IsOfInstant net n (item (actor_at waits 0 k))) → All (IsOfInstant net n) (map (λ (v : Wait). item v.actor) waits)
+instant_items : (net : Net) (n : ℕ) (item : ℕ → StreamItem) (waits : List Wait) → ((k : ℕ) → k < length waits → IsOfInstant net n (item (actor_at waits 0 k))) → All (IsOfInstant net n) (map (λ (v : Wait). item v.actor) waits)
 instant_items net n item [] h = All-nil (IsOfInstant net n)
 instant_items net n item (w ∷ waits) h = All-cons (IsOfInstant net n) (item w.actor) (map (λ (v : Wait). item v.actor) waits) (h 0 (omega arith)) (instant_items net n item waits (λ k l. h (suc k) (omega arith)))
 

@@ -1,9 +1,10 @@
 -- What follows from a net's being proper.
-use Rattle.std.proofs.Common.{ℕ, suc, zero, ◌+◌, ◌-◌, ◌<◌, ◌≤◌, ◌≡◌, ◌⊎◌, true, false, eqb, List, [], ◌∷◌, map, length, ap, sym, refl, ◌∙◌, subst, inl, inr, arith}
+use Rattle.std.proofs.Common.{ℕ, suc, zero, ◌+◌, ◌-◌, ◌<◌, ◌≤◌, ◌≡◌, ◌⊎◌, true, false, eqb, List, [], ◌∷◌, map, length, get_or, ap, sym, refl, ◌∙◌, subst, inl, inr, arith}
 use Rattle.std.specs.Prelude.{Option, Some, None, slice_get, All, count_by}
 use Rattle.std.specs.Option.{option_map}
 use Rattle.std.specs.List.{AllZip}
 use Rattle.std.proofs.lemmas.Bool.{eq-eqb, eqb-true}
+use Rattle.std.proofs.Math.Path.{fun_ext}
 use Rattle.std.proofs.lemmas.Option.{slice_get-map, get_or_from_slice_get, slice_get_within, slice_get_past}
 use Rattle.std.proofs.lemmas.List.{take_all}
 use Rattle.std.proofs.lemmas.List.Elements.{All-nil}
@@ -14,12 +15,12 @@ use Rattle.lucy_word.proofs.SamplingLaws.{ones_to-on}
 use Rattle.lucy_word.proofs.ShortLaws.{same_counts, ones_to-later}
 use Rattle.lucy_stream.specs.Forms.{Form, Kept, Merged}
 use Rattle.lucy_stream.specs.Firings.{gave_in, took_in}
-use Rattle.lucy_stream.specs.Systems.{RingOp, is_give, is_take, IsWired, given, taken}
+use Rattle.lucy_stream.specs.Systems.{System, RingOp, is_give, is_take, IsWired, given, taken}
 use Rattle.lucy_stream.specs.Runs.{IsWithin}
-use Rattle.lucy_stream.specs.Operations.{ops_of, IsOnRings}
+use Rattle.lucy_stream.specs.Operations.{IsOnRings}
 use Rattle.lucy_stream.specs.Instants.{IsInstant}
-use Rattle.lucy_stream.specs.Horizons.{IsLonger, IsLongerTask}
-use Rattle.lucy_stream.specs.Plans.{Task, Link, link_at, no_link, task_ops, system, times, IsOperand, IsPluggedAt, IsPlugged}
+use Rattle.lucy_stream.specs.Horizons.{IsLonger, IsLongerTask, IsLongerPlan}
+use Rattle.lucy_stream.specs.Plans.{Task, task_ops, system, times, IsOperand, IsPluggedAt, IsPlugged}
 use Rattle.lucy_stream.proofs.PlanLaws.{IsWired-plan}
 use Rattle.lucy_stream.proofs.LongerPlans.{IsLonger-plan}
 use Rattle.lucy_stream.proofs.HorizonLaws.{given-longer, taken-longer}
@@ -29,23 +30,32 @@ use Rattle.lucy_stream.proofs.OperationLaws.{ops_rings, no_gives, no_takes}
 use Rattle.lucy_net.specs.declared.net.Actor.{Actor}
 use Rattle.lucy_net.specs.declared.net.RingSpec.{RingSpec}
 use Rattle.lucy_net.specs.declared.net.Net.{Net}
-use Rattle.lucy_net.specs.Plans.{form_of, task_of, link_of, giver, taker, plan, net_system, done_by}
+use Rattle.lucy_net.specs.Plans.{form_of, task_of, actor_ops, giver, taker, plan, net_system, done_by}
 use Rattle.lucy_stream.specs.Totals.{OnlyFirst}
 use Rattle.lucy_net.specs.States.{IsUsable}
 use Rattle.lucy_net.specs.Proper.{IsWriteWord, IsReadWord, IsProper, IsProperActor, IsProperRing}
 use Rattle.lucy_net.proofs.WhereLaws.{times_yes, times_le, where_all, where_length, operand_of}
 
--- the task of an actor, and the link of a ring
+-- the task of an actor, and the numbers of a ring
 pub task_at : (net : Net) (n a : ℕ) (actor : Actor) → slice_get net.actors a ≡ Some actor → slice_get (plan net n).tasks a ≡ Some (task_of n actor)
 task_at net n a actor e = slice_get-map (task_of n) net.actors a ∙ ap (option_map (task_of n)) e
 
-pub link_is : (net : Net) (n r : ℕ) (ring : RingSpec) → slice_get net.rings r ≡ Some ring → link_at (plan net n) r ≡ link_of ring
-link_is net n r ring e = get_or_from_slice_get (map link_of net.rings) r (link_of ring) no_link (slice_get-map link_of net.rings r ∙ ap (option_map link_of) e)
+pub number_at : (f : RingSpec → ℕ) (rings : List RingSpec) (r : ℕ) (ring : RingSpec) → slice_get rings r ≡ Some ring → get_or (map f rings) r 0 ≡ f ring
+number_at f rings r ring e = get_or_from_slice_get (map f rings) r (f ring) 0 (slice_get-map f rings r ∙ ap (option_map f) e)
+
+pub from_here : (net : Net) (r : ℕ) (ring : RingSpec) → slice_get net.rings r ≡ Some ring → giver net r ≡ ring.from
+from_here net r ring e = number_at (λ x. x.from) net.rings r ring e
+
+pub to_here : (net : Net) (r : ℕ) (ring : RingSpec) → slice_get net.rings r ≡ Some ring → taker net r ≡ ring.to
+to_here net r ring e = number_at (λ x. x.to) net.rings r ring e
+
+pub size_here : (net : Net) (n r : ℕ) (ring : RingSpec) → slice_get net.rings r ≡ Some ring → (plan net n).size r ≡ ring.size
+size_here net n r ring e = number_at (λ x. x.size) net.rings r ring e
 
 plugged_task : (net : Net) (n a : ℕ) (actor : Actor) → IsProperActor net a actor → IsPluggedAt (plan net n) a (task_of n actor)
 plugged_task net n a actor is = record {
-  gives = subst (All (λ r. (link_at (plan net n) r).from ≡ a)) (sym is.gives) (where_all (λ r. (link_at (plan net n) r).from ≡ a) (λ r. eqb (giver net r) a) (length net.rings) (λ r l y. eqb-true (giver net r) a y));
-  takes = subst (All (λ r. (link_at (plan net n) r).to ≡ a)) (sym is.takes) (where_all (λ r. (link_at (plan net n) r).to ≡ a) (λ r. eqb (taker net r) a) (length net.rings) (λ r l y. eqb-true (taker net r) a y));
+  gives = subst (All (λ r. (plan net n).from r ≡ a)) (sym is.gives) (where_all (λ r. (plan net n).from r ≡ a) (λ r. eqb (giver net r) a) (length net.rings) (λ r l y. eqb-true (giver net r) a y));
+  takes = subst (All (λ r. (plan net n).to r ≡ a)) (sym is.takes) (where_all (λ r. (plan net n).to r ≡ a) (λ r. eqb (taker net r) a) (length net.rings) (λ r l y. eqb-true (taker net r) a y));
   gives_once = λ r. subst (λ xs. times r xs ≤ 1) (sym is.gives) (times_le (λ r. eqb (giver net r) a) (length net.rings) r);
   takes_once = λ r. subst (λ xs. times r xs ≤ 1) (sym is.takes) (times_le (λ r. eqb (taker net r) a) (length net.rings) r);
   arity = is.arity;
@@ -58,12 +68,35 @@ plugged_at net n a task is (Some actor) e h = (let same : task_of n actor ≡ ta
 pub plugged : (net : Net) (n : ℕ) → IsProper net → IsPlugged (plan net n)
 plugged net n is a task e = plugged_at net n a task is (slice_get net.actors a) refl (sym (slice_get-map (task_of n) net.actors a) ∙ e)
 
-pub wired : (net : Net) (n : ℕ) → IsProper net → IsWired (net_system net n)
+-- the operations of an actor, if it is there
+abbrev pub ops_in : ℕ → Option Actor → List RingOp
+ops_in n None = []
+ops_in n (Some actor) = actor_ops n actor
+
+ops_among : (n : ℕ) (actors : List Actor) (a : ℕ) → get_or (map (actor_ops n) actors) a [] ≡ ops_in n (slice_get actors a)
+ops_among n [] a = refl
+ops_among n (actor ∷ actors) zero = refl
+ops_among n (actor ∷ actors) (suc a) = ops_among n actors a
+
+pub ops_at : (net : Net) (n a : ℕ) → (net_system net n).ops a ≡ ops_in n (slice_get net.actors a)
 unfolding net_system
-wired net n is = IsWired-plan (plan net n) (plugged net n is)
+ops_at net n a = ops_among n net.actors a
+
+tasks_at : (n : ℕ) (actors : List Actor) (a : ℕ) → task_ops (slice_get (map (task_of n) actors) a) ≡ get_or (map (actor_ops n) actors) a []
+tasks_at n [] a = refl
+tasks_at n (actor ∷ actors) zero = refl
+tasks_at n (actor ∷ actors) (suc a) = tasks_at n actors a
+
+-- the net's system is that of its plan
+pub planned : (net : Net) (n : ℕ) → system (plan net n) ≡ net_system net n
+unfolding net_system
+planned net n = ap (λ (ops : ℕ → List RingOp). let sys : System = record { ops = ops; from = giver net; to = taker net; size = (plan net n).size } in sys) (fun_ext (tasks_at n net.actors))
+
+pub wired : (net : Net) (n : ℕ) → IsProper net → IsWired (net_system net n)
+wired net n is = subst IsWired (planned net n) (IsWired-plan (plan net n) (plugged net n is))
 
 -- under a later horizon the actors have longer lists
-longer_tasks : (n m : ℕ) → n ≤ m → (actors : List Actor) → AllZip IsLongerTask (map (task_of n) actors) (map (task_of m) actors)
+pub longer_tasks : (n m : ℕ) → n ≤ m → (actors : List Actor) → AllZip IsLongerTask (map (task_of n) actors) (map (task_of m) actors)
 longer_tasks n m l [] = tt
 longer_tasks n m l (actor ∷ actors) = (
   record {
@@ -75,24 +108,15 @@ longer_tasks n m l (actor ∷ actors) = (
   longer_tasks n m l actors,
 )
 
+pub longer_planned : (net : Net) (n m : ℕ) → n ≤ m → IsLongerPlan (plan net n) (plan net m)
+longer_planned net n m l = record { tasks = longer_tasks n m l net.actors; from = λ r. refl; to = λ r. refl; size = λ r. refl }
+
 pub longer : (net : Net) (n m : ℕ) → n ≤ m → IsLonger (net_system net n) (net_system net m)
-unfolding net_system
-longer net n m l = IsLonger-plan (plan net n) (plan net m) (record { tasks = longer_tasks n m l net.actors; links = refl })
+longer net n m l =
+    subst (λ sys. IsLonger sys (net_system net m)) (planned net n)
+    (subst (IsLonger (system (plan net n))) (planned net m) (IsLonger-plan (plan net n) (plan net m) (longer_planned net n m l)))
 
--- the operations of an actor, if it is there
-abbrev pub actor_ops : ℕ → Option Actor → List RingOp
-actor_ops n None = []
-actor_ops n (Some actor) = ops_of (form_of actor.kind) actor.takes actor.gives (ones_to actor.firing n)
-
-task_ops_is : (n : ℕ) (o : Option Actor) → task_ops (option_map (task_of n) o) ≡ actor_ops n o
-task_ops_is n None = refl
-task_ops_is n (Some actor) = refl
-
-pub ops_at : (net : Net) (n a : ℕ) → (net_system net n).ops a ≡ actor_ops n (slice_get net.actors a)
-unfolding net_system
-ops_at net n a = ap task_ops (slice_get-map (task_of n) net.actors a) ∙ task_ops_is n (slice_get net.actors a)
-
-pub done_is : (net : Net) (n a : ℕ) → done_by net n a ≡ length (actor_ops n (slice_get net.actors a))
+pub done_is : (net : Net) (n a : ℕ) → done_by net n a ≡ length (ops_in n (slice_get net.actors a))
 unfolding done_by
 done_is net n a = ap length (ops_at net n a)
 
@@ -100,13 +124,13 @@ done_is net n a = ap length (ops_at net n a)
 all_given : (net : Net) (n m r : ℕ) → n ≤ m → given (net_system net m) (done_by net n) r ≡ count_by (is_give r) ((net_system net n).ops (giver net r))
 unfolding net_system done_by given
 all_given net n m r l =
-    given-longer (system (plan net n)) (system (plan net m)) (done_by net n) r (longer net n m l) (omega arith)
+    given-longer (net_system net n) (net_system net m) (done_by net n) r (longer net n m l) (omega arith)
     ∙ ap (count_by (is_give r)) (take_all (length ((net_system net n).ops (giver net r))) ((net_system net n).ops (giver net r)) (omega arith))
 
 all_taken : (net : Net) (n m r : ℕ) → n ≤ m → taken (net_system net m) (done_by net n) r ≡ count_by (is_take r) ((net_system net n).ops (taker net r))
 unfolding net_system done_by taken
 all_taken net n m r l =
-    taken-longer (system (plan net n)) (system (plan net m)) (done_by net n) r (longer net n m l) (omega arith)
+    taken-longer (net_system net n) (net_system net m) (done_by net n) r (longer net n m l) (omega arith)
     ∙ ap (count_by (is_take r)) (take_all (length ((net_system net n).ops (taker net r))) ((net_system net n).ops (taker net r)) (omega arith))
 
 -- the words of a ring count what its giver gives and what its taker takes
@@ -118,12 +142,6 @@ pub read_counts : (form : Form) (firing read : Bits) (j t : ℕ) → IsReadWord 
 read_counts (Merged word) firing read zero t is = sym (ones_to-on firing word read t is)
 read_counts (Merged word) firing read (suc j) t is = omega (arith, ones_to-on firing is.0 read t is.2, ones_to-complement word is.0 (ones_to firing t) is.1)
 read_counts form firing read j t is = same_counts firing read is t
-
-pub from_here : (net : Net) (r : ℕ) (ring : RingSpec) → slice_get net.rings r ≡ Some ring → giver net r ≡ ring.from
-from_here net r ring e = ap (λ (l : Link). l.from) (link_is net 0 r ring e)
-
-pub to_here : (net : Net) (r : ℕ) (ring : RingSpec) → slice_get net.rings r ≡ Some ring → taker net r ≡ ring.to
-to_here net r ring e = ap (λ (l : Link). l.to) (link_is net 0 r ring e)
 
 pub given_times : (net : Net) (r a : ℕ) (ring : RingSpec) (actor : Actor) → IsProperActor net a actor → slice_get net.rings r ≡ Some ring → ring.from ≡ a → times r actor.gives ≡ 1
 given_times net r a ring actor is e same =
@@ -140,7 +158,7 @@ given_by_word net n m r ring l is e =
     let by : Actor = here.giver in
     let f : giver net r ≡ ring.from = from_here net r ring e in
     let one : times r by.gives ≡ 1 = given_times net r ring.from ring by (is.actors ring.from by here.gives_here) e refl in
-    all_given net n m r l ∙ ap (λ a. count_by (is_give r) ((net_system net n).ops a)) f ∙ ap (count_by (is_give r)) (ops_at net n ring.from ∙ ap (actor_ops n) here.gives_here)
+    all_given net n m r l ∙ ap (λ a. count_by (is_give r) ((net_system net n).ops a)) f ∙ ap (count_by (is_give r)) (ops_at net n ring.from ∙ ap (ops_in n) here.gives_here)
     ∙ gives_in_ops (form_of by.kind) by.takes by.gives (ones_to by.firing n) r one ∙ write_counts (form_of by.kind) by.firing ring.write n here.write
 
 pub taken_by_word : (net : Net) (n m r : ℕ) (ring : RingSpec) → n ≤ m → IsProper net → slice_get net.rings r ≡ Some ring → taken (net_system net m) (done_by net n) r ≡ ones_to ring.read n
@@ -151,7 +169,7 @@ taken_by_word net n m r ring l is e =
     let f : taker net r ≡ ring.to = to_here net r ring e in
     let operand = operand_of r by.takes (taken_times net r ring.to ring by actor e refl) in
     let o : IsOperand by.takes operand.0 r = operand.1 in
-    all_taken net n m r l ∙ ap (λ a. count_by (is_take r) ((net_system net n).ops a)) f ∙ ap (count_by (is_take r)) (ops_at net n ring.to ∙ ap (actor_ops n) here.takes_here)
+    all_taken net n m r l ∙ ap (λ a. count_by (is_take r) ((net_system net n).ops a)) f ∙ ap (count_by (is_take r)) (ops_at net n ring.to ∙ ap (ops_in n) here.takes_here)
     ∙ takes_in_ops (form_of by.kind) by.takes by.gives (ones_to by.firing n) operand.0 r actor.arity o
     ∙ read_counts (form_of by.kind) by.firing ring.read operand.0 n (here.read operand.0 o.there o.is)
 
@@ -161,7 +179,7 @@ gives_there net a actor is = subst (All (λ r. r < length net.rings)) (sym is.gi
 pub takes_there : (net : Net) (a : ℕ) (actor : Actor) → IsProperActor net a actor → All (λ r. r < length net.rings) actor.takes
 takes_there net a actor is = subst (All (λ r. r < length net.rings)) (sym is.takes) (where_all (λ r. r < length net.rings) (λ r. eqb (taker net r) a) (length net.rings) (λ r l y. l))
 
-actor_there : (net : Net) (n a : ℕ) → IsProper net → (o : Option Actor) → slice_get net.actors a ≡ o → All (IsOnRings (length net.rings)) (actor_ops n o)
+actor_there : (net : Net) (n a : ℕ) → IsProper net → (o : Option Actor) → slice_get net.actors a ≡ o → All (IsOnRings (length net.rings)) (ops_in n o)
 actor_there net n a is None e = All-nil (IsOnRings (length net.rings))
 actor_there net n a is (Some actor) e =
     let p : IsProperActor net a actor = is.actors a actor e in
@@ -171,12 +189,12 @@ actor_there net n a is (Some actor) e =
 pub given_past : (net : Net) (n m r : ℕ) → n ≤ m → IsProper net → length net.rings ≤ r → given (net_system net m) (done_by net n) r ≡ 0
 given_past net n m r l is past =
     let a : ℕ = giver net r in
-    all_given net n m r l ∙ ap (count_by (is_give r)) (ops_at net n a) ∙ no_gives (length net.rings) r (actor_ops n (slice_get net.actors a)) past (actor_there net n a is (slice_get net.actors a) refl)
+    all_given net n m r l ∙ ap (count_by (is_give r)) (ops_at net n a) ∙ no_gives (length net.rings) r (ops_in n (slice_get net.actors a)) past (actor_there net n a is (slice_get net.actors a) refl)
 
 pub taken_past : (net : Net) (n m r : ℕ) → n ≤ m → IsProper net → length net.rings ≤ r → taken (net_system net m) (done_by net n) r ≡ 0
 taken_past net n m r l is past =
     let a : ℕ = taker net r in
-    all_taken net n m r l ∙ ap (count_by (is_take r)) (ops_at net n a) ∙ no_takes (length net.rings) r (actor_ops n (slice_get net.actors a)) past (actor_there net n a is (slice_get net.actors a) refl)
+    all_taken net n m r l ∙ ap (count_by (is_take r)) (ops_at net n a) ∙ no_takes (length net.rings) r (ops_in n (slice_get net.actors a)) past (actor_there net n a is (slice_get net.actors a) refl)
 
 ring_in : (rings : List RingSpec) (r : ℕ) → ((ring : RingSpec) × (slice_get rings r ≡ Some ring)) ⊎ (length rings ≤ r)
 ring_in [] r = inr (omega arith)
@@ -197,7 +215,7 @@ ring_cases net r = ring_in net.rings r
 
 pub size_is : (net : Net) (n r : ℕ) (ring : RingSpec) → slice_get net.rings r ≡ Some ring → (net_system net n).size r ≡ ring.size
 unfolding net_system
-size_is net n r ring e = ap (λ (l : Link). l.size) (link_is net n r ring e)
+size_is net n r ring e = size_here net n r ring e
 
 pub one_more : (w : Bits) (n : ℕ) → ones_to w (n + 1) ≤ ones_to w n + 1
 one_more w n = (let h : one_if (bit_at w (n + 1)) ≤ 1 = elim (bit_at w (n + 1)) as (λ b. one_if b ≤ 1) [ true ↦ omega arith | false ↦ omega arith ] in omega (arith, ones_to-more w n))
@@ -243,5 +261,8 @@ usable net a actor is e =
     record { arity = p.arity; few = omega (arith, gives_short net a actor p, is.few_rings); gives_none = p.gives_none }
 
 -- actors that aren't there have nothing to do
+pub only_planned : (net : Net) (n : ℕ) → OnlyFirst (system (plan net n)) (length net.actors)
+only_planned net n a past = ap (λ o. length (task_ops o)) (slice_get-map (task_of n) net.actors a ∙ ap (option_map (task_of n)) (slice_get_past net.actors a past))
+
 pub only_first : (net : Net) (n : ℕ) → OnlyFirst (net_system net n) (length net.actors)
-only_first net n a past = ap length (ops_at net n a) ∙ ap (λ o. length (actor_ops n o)) (slice_get_past net.actors a past)
+only_first net n = subst (λ sys. OnlyFirst sys (length net.actors)) (planned net n) (only_planned net n)

@@ -1,13 +1,18 @@
 -- No two inputs, and no two outputs, have one number.
 use Rattle.std.proofs.Common.{ℕ, suc, zero, ◌+◌, ◌<◌, ◌≤◌, ◌≡◌, Bool, true, false, cond, eqb, ltb, List, [], ◌∷◌, ◌++◌, length, ap, sym, refl, ◌∙◌, inl, inr, arith}
 use Rattle.std.specs.Prelude.{Some, slice_get}
+use Rattle.std.specs.List.{flat_map}
 use Rattle.std.proofs.lemmas.Bool.{cases_eq, cases_lt, eq-eqb, ne_eqb, lt-ltb, le-ltb}
 use Rattle.std.proofs.lemmas.List.Sums.{sum_by-cons, sum_by-append}
 use Rattle.lucy_stream.specs.Plans.{times}
 use Rattle.lucy_net.specs.declared.kind.ActorKind.{ActorKind}
 use Rattle.lucy_net.specs.declared.kind.ActorKind.TheVariants.{Input, Output}
 use Rattle.lucy_net.specs.declared.net.Actor.{Actor}
-use Rattle.lucy_net.specs.Proper.{input_of, output_of, numbers_of, IsNumbering}
+use Rattle.lucy_net.specs.Proper.{input_of, output_of, IsNumbering}
+
+-- the numbers of actors, in their order
+abbrev pub numbers_of : (ActorKind → List ℕ) → List Actor → List ℕ
+numbers_of number actors = flat_map (λ (actor : Actor). number actor.kind) actors
 
 abbrev one : Bool → ℕ
 one b = cond b 1 0
@@ -60,7 +65,8 @@ numbers_once xs n is = elim (cases_lt n (length xs)) [
   | inr past ↦ omega (arith, past_none (length xs) n xs past (below_all (length xs) xs is))
 ]
 
-times_append : (r : ℕ) (xs ys : List ℕ) → times r (xs ++ ys) ≡ times r xs + times r ys
+-- how often a number stands in two lists
+pub times_append : (r : ℕ) (xs ys : List ℕ) → times r (xs ++ ys) ≡ times r xs + times r ys
 times_append r xs ys = sum_by-append (λ s. cond (eqb s r) 1 0) xs ys
 
 times_here : (number : ActorKind → List ℕ) (n : ℕ) (what kind : ActorKind) → what ≡ kind → number kind ≡ n ∷ [] → times n (number what) ≡ 1

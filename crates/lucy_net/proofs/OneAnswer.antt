@@ -1,11 +1,10 @@
 -- A net has one answer: the lengths of its schedule, or one limit, or the first instant that has a cycle.
-use Rattle.std.proofs.Common.{ℕ, ◌+◌, ◌<◌, ◌≡◌, List, [], ◌∷◌, map, ap, sym, refl, ◌∙◌, subst, inl, inr, arith}
-use Rattle.std.specs.Prelude.{Result, Ok, Err, IsErrAnd, MatchResult}
+use Rattle.std.proofs.Common.{ℕ, ◌+◌, ◌<◌, ◌≡◌, List, [], ◌∷◌, map, ap, sym, refl, ◌∙◌, inl, inr, arith}
 use Rattle.std.proofs.lemmas.Bool.{cases_lt}
 use Rattle.std.proofs.lemmas.Nat.Gcd.{dvd_antisymm}
 use Rattle.std.proofs.lemmas.List.Elements.{All-head}
 use Rattle.lucy_word.specs.Bits.{Bits}
-use Rattle.lucy_stream.specs.Needs.{Item, ReachesItself}
+use Rattle.lucy_stream.specs.Needs.{StreamItem, ReachesItself}
 use Rattle.lucy_net.specs.declared.net.Net.{Net}
 use Rattle.lucy_net.specs.Causal.{net_places, IsOfInstant}
 use Rattle.lucy_net.specs.Words.{net_words}
@@ -40,11 +39,11 @@ long_not_many net long many =
 
 -- an item of a cycle reaches itself
 record Turns (net : Net) (before : ℕ) : Type 0 where
-  pub item : Item
+  pub item : StreamItem
   pub of_instant : IsOfInstant net before item
   pub reaches : ReachesItself (net_places net) item
 
-turns : (net : Net) (instant : ℕ) (items : List Item) (is : IsFirstCycle net instant items) → Turns net is.before
+turns : (net : Net) (instant : ℕ) (items : List StreamItem) (is : IsFirstCycle net instant items) → Turns net is.before
 turns net instant [] is = absurd is.cycle
 turns net instant (x ∷ walk) is = record { item = x; of_instant = All-head (IsOfInstant net is.before) x walk is.of_instant; reaches = (walk, is.cycle) }
 
@@ -57,10 +56,10 @@ never_both net s (fault.Cycle instant items) is why =
 never_both net s fault.OutOfMemory is why = refl
 
 -- no cycle of a later instant is the first
-not_later : (net : Net) (instant other : ℕ) (items others : List Item) (is : IsFirstCycle net instant items) (later : IsFirstCycle net other others) → is.before < later.before → ⊥
+not_later : (net : Net) (instant other : ℕ) (items others : List StreamItem) (is : IsFirstCycle net instant items) (later : IsFirstCycle net other others) → is.before < later.before → ⊥
 not_later net instant other items others is later l = (let found = turns net instant items is in later.first is.before found.item l found.of_instant found.reaches)
 
-one_instant : (net : Net) (instant other : ℕ) (items others : List Item) → IsFirstCycle net instant items → IsFirstCycle net other others → instant ≡ other
+one_instant : (net : Net) (instant other : ℕ) (items others : List StreamItem) → IsFirstCycle net instant items → IsFirstCycle net other others → instant ≡ other
 one_instant net instant other items others is also = elim (cases_lt is.before also.before) [
   | inl l ↦ absurd (not_later net instant other items others is also l)
   | inr up ↦ elim (cases_lt also.before is.before) [
@@ -88,7 +87,3 @@ pub stops : (net : Net) (prefix period instants : ℕ) (e : CauseFault) → IsAl
 stops net prefix period instants (fault.Limit which) allowed same why = absurd why
 stops net prefix period instants (fault.Cycle instant items) allowed same why = ((prefix, period, allowed, omega (arith, why.0)), why.1)
 stops net prefix period instants fault.OutOfMemory allowed same why = tt
-
-pub fails_so : {T : Type 0} (r : Result T CauseFault) (e : CauseFault) (A : T → Type 0) (B : CauseFault → Type 0) → IsErrAnd r (λ f. f ≡ e) → B e → MatchResult r A B
-fails_so (Ok x) e A B is b = absurd is
-fails_so (Err f) e A B is b = subst B (sym is) b

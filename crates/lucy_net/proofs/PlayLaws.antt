@@ -10,7 +10,6 @@ use Rattle.lucy_word.specs.declared.limit.Limit.TheVariants as limit
 use Rattle.lucy_stream.specs.Systems.{System, RingOp, Takes, Gives, op_at, given, taken}
 use Rattle.lucy_stream.specs.Runs.{IsPossible, step, IsWithin}
 use Rattle.lucy_stream.specs.Instants.{Waits}
-use Rattle.lucy_stream.specs.Plans.{no_link, Link}
 use Rattle.lucy_stream.proofs.CountLaws.{step-same, step-other, given-same, taken-same, gives_next, takes_next}
 use Rattle.lucy_stream.proofs.RunLaws.{IsWithin-run, after-le}
 use Rattle.lucy_stream.proofs.EventLaws.{}
@@ -20,7 +19,7 @@ use Rattle.lucy_net.specs.declared.net.Actor.{Actor}
 use Rattle.lucy_net.specs.declared.net.RingSpec.{RingSpec}
 use Rattle.lucy_net.specs.declared.net.Net.{Net}
 use Rattle.lucy_word.specs.Bits.{ones_to}
-use Rattle.lucy_net.specs.Plans.{link_of, net_system, done_by, giver}
+use Rattle.lucy_net.specs.Plans.{net_system, done_by, giver}
 use Rattle.lucy_net.specs.Proper.{IsProper}
 use Rattle.lucy_net.specs.Instants.{slot, firing_of}
 use Rattle.lucy_net.specs.Play.{IsWithinRings, done_in, IsPlayedSoFar}
@@ -235,4 +234,4 @@ actor_here actors list i actor same l e = slice_get_read actors (length actors) 
 
 pub giver_here : (net : Net) (list : List RingSpec) (r : ℕ) (ring : RingSpec) → list ≡ net.rings → r < length net.rings → (get_or list r ring).from ≡ giver net r
 giver_here net list r ring same l =
-    ap (λ xs. (get_or xs r ring).from) same ∙ sym (ap (λ (link : Link). link.from) (get_or-map link_of net.rings r ring no_link l))
+    ap (λ xs. (get_or xs r ring).from) same ∙ sym (get_or-map (λ (x : RingSpec). x.from) net.rings r ring 0 l)

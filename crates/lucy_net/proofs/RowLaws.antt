@@ -1,15 +1,15 @@
 -- The instants that are played, one after another.
-use Rattle.std.proofs.Common.{ℕ, suc, zero, ◌+◌, ◌-◌, ◌<◌, ◌≤◌, ◌≡◌, List, [], ◌∷◌, ◌++◌, map, length, get_or, take, drop, ap, sym, refl, ◌∙◌, subst, inl, inr, arith, length-append}
+use Rattle.std.proofs.Common.{ℕ, suc, zero, ◌+◌, ◌<◌, ◌≤◌, ◌≡◌, List, [], ◌∷◌, ◌++◌, map, length, get_or, take, drop, ap, sym, refl, ◌∙◌, subst, inl, inr, arith, length-append}
 use Rattle.std.specs.Prelude.{Some, slice_get, slice_index, slice_index_or, All, Vec, replicate}
 use Rattle.std.specs.Option.{option_map}
 use Rattle.std.proofs.lemmas.Bool.{cases_lt}
 use Rattle.std.proofs.lemmas.Option.{slice_get-map, slice_get_read, slice_get_within, slice_get-get_or, get_or_from_slice_get}
-use Rattle.std.proofs.lemmas.List.{length-map, get_or-map, map-append, get_or_append_left, get_or-append-add, get_or_past, length-replicate, get_or-replicate, take_all, length-drop}
+use Rattle.std.proofs.lemmas.List.{length-map, get_or-map, map-append, get_or_append_left, get_or-append-add, get_or_past, length-replicate, get_or-replicate, length-drop}
 use Rattle.lucy_stream.specs.Systems.{Takes}
 use Rattle.lucy_word.proofs.BitsLaws.{ones_to-none}
 use Rattle.lucy_net.specs.declared.net.Net.{Net}
 use Rattle.lucy_net.specs.Proper.{IsProper}
-use Rattle.lucy_stream.specs.Needs.{Item}
+use Rattle.lucy_stream.specs.Needs.{StreamItem}
 use Rattle.lucy_net.specs.Orders.{IsOrder}
 use Rattle.lucy_net.specs.declared.settle.Wait.{Wait}
 use Rattle.lucy_net.specs.Instants.{slot}
@@ -57,10 +57,6 @@ row_events rows (suc n) = slice_index_or rows n []
 pub row_orders : (net : Net) (rows : List (List ℕ)) → AreOrders net rows → (n : ℕ) → n < length rows → IsOrder net n (row_events rows (suc n))
 row_orders net rows are n l = are n (get_or rows n []) (slice_get-get_or rows n [] l)
 
--- the last of those that wait, as a program takes them
-pub part_is : (waits : List Wait) (place : ℕ) → take (length waits - place) (drop place waits) ≡ drop place waits
-part_is waits place = take_all (length waits - place) (drop place waits) (omega (arith, length-drop place waits))
-
 pub part_there : (waits : List Wait) (place : ℕ) → 0 < length (drop place waits) → place ≤ length waits
 part_there waits place some = omega (arith, some, length-drop place waits)
 
@@ -79,7 +75,7 @@ turned_actors net waits copy turned list same turn read all =
     subst (All P) (sym (read ∙ turn.turned)) (All-append P (drop turn.place copy) (take turn.place copy) (All-drop P turn.place copy there) (All-take P turn.place copy there))
 
 -- a knot in the first instant that has no order
-pub first_cycle : (net : Net) (n : ℕ) (order steps held : List ℕ) (waits turned : List Wait) (rows : List (List ℕ)) (items : List Item) → IsProper net → IsPlayedSoFar net n order steps held → IsKnot net n steps held waits →
+pub first_cycle : (net : Net) (n : ℕ) (order steps held : List ℕ) (waits turned : List Wait) (rows : List (List ℕ)) (items : List StreamItem) → IsProper net → IsPlayedSoFar net n order steps held → IsKnot net n steps held waits →
     IsTurnedToLeast waits turned → AreOrders net rows → length rows ≡ n → items ≡ map (λ wait. item_now net (n + 1) wait.actor) turned → IsFirstCycle net (n + 1) items
 first_cycle net n order steps held waits turned rows items is played knot turn are len e =
     let knot_is = knot_cycle net n order steps held waits is played knot in

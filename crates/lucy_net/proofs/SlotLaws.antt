@@ -17,9 +17,9 @@ use Rattle.lucy_net.specs.Plans.{form_of, net_system, done_by}
 use Rattle.lucy_net.specs.Proper.{IsProper, IsProperActor}
 use Rattle.lucy_net.specs.Instants.{slot_of, slot, firing_of}
 use Rattle.lucy_net.proofs.WhereLaws.{where_length}
-use Rattle.lucy_net.proofs.NetLaws.{actor_ops, ops_at, gives_there, takes_there, gives_short}
+use Rattle.lucy_net.proofs.NetLaws.{ops_in, ops_at, gives_there, takes_there, gives_short}
 
-more_ops : (n : ℕ) (o : Option Actor) → actor_ops (n + 1) o ≡ actor_ops n o ++ slot_of n o
+more_ops : (n : ℕ) (o : Option Actor) → ops_in (n + 1) o ≡ ops_in n o ++ slot_of n o
 more_ops n None = refl
 more_ops n (Some actor) =
     let form : Form = form_of actor.kind in

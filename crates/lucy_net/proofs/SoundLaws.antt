@@ -5,7 +5,7 @@ use Rattle.std.proofs.Math.Nat.{mul-le-mul_left}
 use Rattle.lucy_word.specs.Bits.{Bits, IsWord, ones_to, ones_in}
 use Rattle.lucy_word.specs.Stored.{IsStored}
 use Rattle.lucy_word.proofs.BitsLaws.{ones_to-none, ones_to-turns}
-use Rattle.lucy_stream.specs.Needs.{Item, ReachesItself, IsCausal}
+use Rattle.lucy_stream.specs.Needs.{StreamItem, ReachesItself, IsCausal}
 use Rattle.lucy_stream.specs.Runs.{Leads, IsWhole}
 use Rattle.lucy_stream.specs.Operations.{ops_of}
 use Rattle.lucy_stream.specs.Schedules.{all_done, events_to}
@@ -17,11 +17,11 @@ use Rattle.lucy_net.specs.Proper.{IsProper, IsProperRing}
 use Rattle.lucy_net.specs.Causal.{net_places, items_by, IsOfInstant}
 use Rattle.lucy_net.specs.Orders.{IsOrder, IsSound}
 use Rattle.lucy_net.specs.Words.{net_words}
-use Rattle.lucy_net.proofs.NetLaws.{actor_ops, done_is, longer, write_counts}
+use Rattle.lucy_net.proofs.NetLaws.{ops_in, done_is, longer, write_counts}
 use Rattle.lucy_net.proofs.WordLaws.{ring_word}
 use Rattle.lucy_net.proofs.BackLaws.{IsRead, reached_is_read, no_cycle_by}
 
-none_at : (o : Option Actor) → length (actor_ops 0 o) ≡ 0
+none_at : (o : Option Actor) → length (ops_in 0 o) ≡ 0
 none_at None = refl
 none_at (Some actor) = ap (λ q. length (ops_of (form_of actor.kind) actor.takes actor.gives q)) (ones_to-none actor.firing)
 
@@ -43,7 +43,7 @@ pub sound : (net : Net) (events : ℕ → List ℕ) → ((n : ℕ) → IsOrder n
 sound net events orders m = whole_to net events m (λ n l. subst (λ (k : ℕ). IsOrder net n (events k)) (let z : n + 1 ≡ suc n = omega arith in z) (orders n))
 
 -- then no item of these instants reaches itself
-pub none_reaches : (net : Net) (events : ℕ → List ℕ) (m u : ℕ) (x : Item) → IsProper net → ((n : ℕ) → n < m → IsOrder net n (events (suc n))) → u < m → IsOfInstant net u x → ReachesItself (net_places net) x → ⊥
+pub none_reaches : (net : Net) (events : ℕ → List ℕ) (m u : ℕ) (x : StreamItem) → IsProper net → ((n : ℕ) → n < m → IsOrder net n (events (suc n))) → u < m → IsOfInstant net u x → ReachesItself (net_places net) x → ⊥
 none_reaches net events m u x is h l of reaches =
     no_cycle_by net (u + 1) (events_to events (u + 1)) x is (whole_to net events (u + 1) (λ n k. h n (omega arith))) (omega (arith, of.earlier)) of.by_now reaches
 

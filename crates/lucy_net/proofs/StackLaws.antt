@@ -4,7 +4,7 @@ use Rattle.std.specs.Prelude.{Some, None, slice_get, slice_index, count_by}
 use Rattle.std.specs.Option.{option_map}
 use Rattle.std.proofs.lemmas.Bool.{cases_eq, cases_lt, eq-eqb, ne_eqb}
 use Rattle.std.proofs.lemmas.Option.{slice_get-get_or, slice_get-map, slice_get_within, get_or_from_slice_get}
-use Rattle.std.proofs.lemmas.List.{length-set, length-map, length-take, length-take-le, length-drop, get_or-set_same, get_or-set_other, get_or_past, get_or-take, get_or-drop, take-map, drop-map, map-append, get_or_append_left, get_or-append-add, get_or_default}
+use Rattle.std.proofs.lemmas.List.{length-set, length-map, length-take, length-take-le, length-drop, get_or-set_same, get_or-set_other, get_or_past, get_or-take, get_or-drop, take-map, drop-map, map-append, get_or_append_left, get_or-append-add, get_or_default, nil_from_length}
 use Rattle.std.proofs.lemmas.List.Sums.{sum_by-set, sum_by-cons}
 use Rattle.lucy_stream.specs.Systems.{Takes}
 use Rattle.lucy_net.specs.Plans.{giver}
@@ -380,10 +380,6 @@ stack_knot net n steps held depth waits first now r wait stack up a b mark =
           ∙ sym found.1 ∙ ap (actor_at all next) (let z : m ≡ m + 0 = omega arith in z) ∙ sym (actor_drop all m 0 next 0 (omega arith));
     }
 
-no_waits : (waits : List Wait) → length waits ≡ 0 → waits ≡ []
-no_waits [] e = refl
-no_waits (w ∷ waits) e = absurd (omega arith)
-
 -- or nothing is left for it to do
 pub stack_over : (net : Net) (n : ℕ) (order steps held depth : List ℕ) (waits : List Wait) (first now : ℕ) → IsProper net → IsPlayedSoFar net n order steps held → IsStack net n steps held depth waits first now →
     slice_get (slot net n now) (slice_index steps now) ≡ None → IsFiringOver net n first steps depth waits
@@ -406,5 +402,5 @@ stack_over net n order steps held depth waits first now is played stack none =
       done = subst (λ (b : ℕ). slice_index steps b ≡ length (slot net n b)) same full;
       depths = stack.depths;
       unmarked = λ a. elim (cases_lt 0 (slice_index depth a)) [ inl l ↦ absurd (omega (arith, (stack.marked a l).0)) | inr l ↦ omega arith ];
-      none = no_waits waits empty;
+      none = nil_from_length waits empty;
     }

@@ -9,7 +9,6 @@ use Rattle.lucy_stream.specs.Items.{item_at, newest, list_at}
 use Rattle.lucy_stream.specs.Forms.{Form, operands}
 use Rattle.lucy_stream.specs.Systems.{RingOp, Takes, Gives}
 use Rattle.lucy_stream.specs.Operations.{firing_ops, ops_of, fired_at}
-use Rattle.lucy_stream.specs.Plans.{task_ops}
 use Rattle.lucy_host.specs.Arity.{arity}
 use Rattle.lucy_host.specs.declared.kind.HostKind.{HostKind}
 use Rattle.lucy_host.specs.HostValue.{hosted_value}
@@ -21,7 +20,7 @@ use Rattle.lucy_net.specs.declared.kind.ActorKind.TheVariants as kind
 use Rattle.lucy_net.specs.declared.net.Actor.{Actor}
 use Rattle.lucy_net.specs.declared.firing.Move.TheVariants.{Done}
 use Rattle.lucy_net.specs.declared.state.ActorState.{ActorState}
-use Rattle.lucy_net.specs.Plans.{form_of, task_of}
+use Rattle.lucy_net.specs.Plans.{form_of, actor_ops}
 use Rattle.lucy_net.specs.Moves.{move_of}
 use Rattle.lucy_net.specs.Cursors.{Reads, HasCursor}
 use Rattle.lucy_net.specs.States.{IsUsable, IsActorState, IsOfActor, IsNext, ReadsInput, KnowsOperator, took_more}
@@ -31,26 +30,26 @@ use Rattle.lucy_net.proofs.FiringLaws.{firing_some, firing_few, ops_idle}
 
 -- the next operation
 pub move_open : (actor : Actor) (instants n : ℕ) (took : List (List ℤ)) (s : ActorState) → IsActorState actor instants n took s → s.fired < s.quota →
-    slice_get (firing_ops (form_of actor.kind) actor.takes actor.gives s.fired) s.step ≡ slice_get (task_ops (Some (task_of instants actor))) n
+    slice_get (firing_ops (form_of actor.kind) actor.takes actor.gives s.fired) s.step ≡ slice_get (actor_ops instants actor) n
 move_open actor instants n took s is going =
     let form : Form = form_of actor.kind in
     sym (op_found form actor.takes actor.gives s.fired s.quota s.step going (is.inside going)) ∙ ap (λ k. slice_get (ops_of form actor.takes actor.gives s.quota) k) (sym is.done) ∙ ap (λ q. slice_get (ops_of form actor.takes actor.gives q) n) is.quota
 
-none_ended : (actor : Actor) (instants n : ℕ) (took : List (List ℤ)) (s : ActorState) → IsActorState actor instants n took s → s.quota ≤ s.fired → slice_get (task_ops (Some (task_of instants actor))) n ≡ None
+none_ended : (actor : Actor) (instants n : ℕ) (took : List (List ℤ)) (s : ActorState) → IsActorState actor instants n took s → s.quota ≤ s.fired → slice_get (actor_ops instants actor) n ≡ None
 none_ended actor instants n took s is ended =
     let form : Form = form_of actor.kind in
     let same : s.fired ≡ ones_to actor.firing instants = omega (arith, is.quota, is.within) in
     let all : length (ops_of form actor.takes actor.gives (ones_to actor.firing instants)) ≤ n = omega (arith, is.done, ap (λ q. length (ops_of form actor.takes actor.gives q)) same) in
     slice_get_past (ops_of form actor.takes actor.gives (ones_to actor.firing instants)) n all
 
-pub move_ended : (actor : Actor) (instants n : ℕ) (took : List (List ℤ)) (s : ActorState) → IsActorState actor instants n took s → s.quota ≤ s.fired → Done ≡ move_of (slice_get (task_ops (Some (task_of instants actor))) n)
+pub move_ended : (actor : Actor) (instants n : ℕ) (took : List (List ℤ)) (s : ActorState) → IsActorState actor instants n took s → s.quota ≤ s.fired → Done ≡ move_of (slice_get (actor_ops instants actor) n)
 move_ended actor instants n took s is ended = ap move_of (sym (none_ended actor instants n took s is ended))
 
 -- so the next operation is the planned one
-pub next_is : (actor : Actor) (instants n : ℕ) (took : List (List ℤ)) (s : ActorState) (op : RingOp) → IsActorState actor instants n took s → IsNext actor s op → slice_get (task_ops (Some (task_of instants actor))) n ≡ Some op
+pub next_is : (actor : Actor) (instants n : ℕ) (took : List (List ℤ)) (s : ActorState) (op : RingOp) → IsActorState actor instants n took s → IsNext actor s op → slice_get (actor_ops instants actor) n ≡ Some op
 next_is actor instants n took s op is next = sym (move_open actor instants n took s is next.going) ∙ next.is
 
-pub planned_is : (actor : Actor) (instants n : ℕ) (took : List (List ℤ)) (s : ActorState) (op : RingOp) → IsActorState actor instants n took s → slice_get (task_ops (Some (task_of instants actor))) n ≡ Some op → IsNext actor s op
+pub planned_is : (actor : Actor) (instants n : ℕ) (took : List (List ℤ)) (s : ActorState) (op : RingOp) → IsActorState actor instants n took s → slice_get (actor_ops instants actor) n ≡ Some op → IsNext actor s op
 planned_is actor instants n took s op is e = elim (cases_lt s.fired s.quota) [
   | inl going ↦ record { going = going; is = move_open actor instants n took s is going ∙ e }
   | inr ended ↦ absurd (let none : None ≡ Some op = sym (none_ended actor instants n took s is ended) ∙ e in cc)

@@ -3,29 +3,27 @@ use Rattle.std.proofs.Common.{ℕ, suc, zero, ◌+◌, ◌<◌, ◌≤◌, ◌�
 use Rattle.std.specs.Prelude.{All}
 use Rattle.std.proofs.lemmas.Bool.{cases_Bool, cases_eq, eq-eqb, ne_eqb}
 use Rattle.std.proofs.lemmas.List.{append-nil}
-use Rattle.std.proofs.lemmas.List.Sums.{sum_by-append, sum_by-cons}
+use Rattle.std.proofs.lemmas.List.Sums.{sum_by-cons}
 use Rattle.std.proofs.lemmas.List.Elements.{All-append, All-cons, All-nil}
 use Rattle.lucy_stream.specs.Plans.{times, IsOperand}
 use Rattle.lucy_net.specs.Proper.{numbers_where}
+use Rattle.lucy_net.proofs.NumberedLaws.{times_append}
 
 abbrev one : Bool → ℕ
 one b = cond b 1 0
-
-times-append : (r : ℕ) (xs ys : List ℕ) → times r (xs ++ ys) ≡ times r xs + times r ys
-times-append r xs ys = sum_by-append (λ s. cond (eqb s r) 1 0) xs ys
 
 more_yes : (p : ℕ → Bool) (n r : ℕ) → p n ≡ true → times r (numbers_where p (suc n)) ≡ times r (numbers_where p n) + one (eqb n r)
 more_yes p n r h =
     let a : times r (numbers_where p n ++ cond (p n) (n ∷ []) []) ≡ times r (numbers_where p n ++ n ∷ []) = ap (λ c. times r (numbers_where p n ++ cond c (n ∷ []) [])) h in
     let b : times r (n ∷ []) ≡ one (eqb n r) + times r [] = sum_by-cons (λ s. cond (eqb s r) 1 0) n [] in
     let z : times r [] ≡ 0 = refl in
-    omega (arith, times-append r (numbers_where p n) (n ∷ []))
+    omega (arith, times_append r (numbers_where p n) (n ∷ []))
 
 more_no : (p : ℕ → Bool) (n r : ℕ) → p n ≡ false → times r (numbers_where p (suc n)) ≡ times r (numbers_where p n)
 more_no p n r h =
     let a : times r (numbers_where p n ++ cond (p n) (n ∷ []) []) ≡ times r (numbers_where p n ++ []) = ap (λ c. times r (numbers_where p n ++ cond c (n ∷ []) [])) h in
     let z : times r [] ≡ 0 = refl in
-    omega (arith, times-append r (numbers_where p n) [])
+    omega (arith, times_append r (numbers_where p n) [])
 
 one_same : (n r : ℕ) → n ≡ r → one (eqb n r) ≡ 1
 one_same n r e = ap one (eq-eqb n r e)
@@ -103,3 +101,9 @@ where_yes p n h = ap (numbers_where p) (let z : n + 1 ≡ suc n = omega arith in
 
 pub where_no : (p : ℕ → Bool) (n : ℕ) → p n ≡ false → numbers_where p (n + 1) ≡ numbers_where p n
 where_no p n h = ap (numbers_where p) (let z : n + 1 ≡ suc n = omega arith in z) ∙ ap (λ c. numbers_where p n ++ cond c (n ∷ []) []) h ∙ append-nil (numbers_where p n)
+
+-- numbers for which a test holds
+pub where_same : (f g : ℕ → Bool) (n : ℕ) → ((r : ℕ) → r < n → f r ≡ g r) → numbers_where f n ≡ numbers_where g n
+where_same f g zero h = refl
+where_same f g (suc n) h =
+    ap (λ t. t ++ cond (f n) (n ∷ []) []) (where_same f g n (λ r l. h r (omega (arith, l)))) ∙ ap (λ b. numbers_where g n ++ cond b (n ∷ []) []) (h n (omega arith))

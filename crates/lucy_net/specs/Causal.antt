@@ -3,7 +3,7 @@ use Rattle.std.specs.Prelude.{ℕ, ◌+◌, ◌<◌, ◌≤◌, List, map, slice
 use Rattle.lucy_word.specs.Bits.{ones_to}
 use Rattle.lucy_stream.specs.Firings.{gave_in}
 use Rattle.lucy_stream.specs.Iterates.{Place}
-use Rattle.lucy_stream.specs.Needs.{Item}
+use Rattle.lucy_stream.specs.Needs.{StreamItem}
 use Rattle.lucy_net.specs.declared.net.Actor.{Actor}
 use Rattle.lucy_net.specs.declared.net.Net.{Net}
 use Rattle.lucy_net.specs.Plans.{form_of, giver}
@@ -22,6 +22,6 @@ items_by None instants = 0
 items_by (Some actor) instants = gave_in (form_of actor.kind) (ones_to actor.firing instants)
 
 -- the item is given in the instant after so many others
-pub record IsOfInstant (net : Net) (before : ℕ) (x : Item) : Type 0 where
+pub record IsOfInstant (net : Net) (before : ℕ) (x : StreamItem) : Type 0 where
   pub earlier : items_by (slice_get net.actors x.place) before < x.number
   pub by_now : x.number ≤ items_by (slice_get net.actors x.place) (before + 1)

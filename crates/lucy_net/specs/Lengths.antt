@@ -1,13 +1,12 @@
 -- The lengths of a schedule, and how many operations a net has.
-use Rattle.std.specs.Prelude.{ℕ, ◌*◌, ◌^◌, ◌<◌, ◌≤◌, List, All, length, sum_by, Some}
+use Rattle.std.specs.Prelude.{ℕ, ◌*◌, ◌^◌, ◌<◌, ◌≤◌, List, All, length, sum_by}
 use Prim.Native.Nat.{◌∣◌}
 use Rattle.lucy_word.specs.Bits.{Bits}
 use Rattle.lucy_word.specs.Limits.{limit_number}
 use Rattle.lucy_word.specs.declared.limit.Limit.TheVariants as limit
 use Rattle.lucy_stream.specs.Forms.{Form, Merged}
-use Rattle.lucy_stream.specs.Plans.{task_ops}
 use Rattle.lucy_net.specs.declared.net.Net.{Net}
-use Rattle.lucy_net.specs.Plans.{task_of}
+use Rattle.lucy_net.specs.Plans.{actor_ops}
 
 -- the greatest prefix length of words, and the least common multiple of their period lengths
 pub record AreLengths (words : List Bits) (prefix period : ℕ) : Type 0 where
@@ -28,4 +27,4 @@ most_operations = 2 ^ 16 * limit_number limit.Instants
 
 -- how many operations the actors of a net have in the first instants
 abbrev pub operations_by : Net → ℕ → ℕ
-operations_by net instants = sum_by (λ actor. length (task_ops (Some (task_of instants actor)))) net.actors
+operations_by net instants = sum_by (λ actor. length (actor_ops instants actor)) net.actors

@@ -1,4 +1,4 @@
--- What callers believe, in the order to read it: the plan of a net, proper nets, moves, cursors and states of actors, words, causes and
+-- What callers believe, in the order to read it: the operations of a net, proper nets, moves, cursors and states of actors, words, causes and
 -- sound orders of events; how long a schedule is, why there is none, what one is, and that a net has one answer.
 pub mod Plans
 pub mod Proper

@@ -1,7 +1,7 @@
 -- Orders of a net's events, instant by instant. Instants count from 1; `before` instants are before the one that is meant.
 use Rattle.std.specs.Prelude.{ℕ, ◌+◌, List}
-use Rattle.lucy_stream.specs.Runs.{Leads}
-use Rattle.lucy_stream.specs.Schedules.{AreWhole}
+use Rattle.lucy_stream.specs.Runs.{Leads, IsWhole}
+use Rattle.lucy_stream.specs.Schedules.{events_to}
 use Rattle.lucy_net.specs.declared.net.Net.{Net}
 use Rattle.lucy_net.specs.Plans.{net_system, done_by}
 
@@ -11,4 +11,4 @@ IsOrder net before order = Leads (net_system net (before + 1)) (done_by net befo
 
 -- the schedule is sound: for every horizon the events of the instants up to it are a run of all operations up to it
 abbrev pub IsSound : Net → (ℕ → List ℕ) → Type 0
-IsSound net events = AreWhole (net_system net) events
+IsSound net events = (n : ℕ) → IsWhole (net_system net n) (events_to events n)

@@ -1,6 +1,7 @@
 -- Which nets are proper: the limits are kept, the actors are plugged to their rings, and the words of each ring are those on
 -- which its giver gives and its taker takes, adaptable within its size.
 use Rattle.std.specs.Prelude.{ℕ, suc, zero, ◌+◌, ◌<◌, ◌≤◌, ◌≡◌, Bool, List, [], ◌∷◌, ◌++◌, length, nat_eq, sum_by, ℤ, slice_get, slice_index_or, if◌then◌else◌, Some}
+use Rattle.std.specs.List.{flat_map}
 use Rattle.lucy_word.specs.Bits.{Bits, ones_to}
 use Rattle.lucy_word.specs.Shortest.{Same}
 use Rattle.lucy_word.specs.Sampling.{IsOn}
@@ -32,11 +33,6 @@ input_of kind = []
 abbrev pub output_of : ActorKind → List ℕ
 output_of (Output output) = output ∷ []
 output_of kind = []
-
--- those of actors, in their order
-abbrev pub numbers_of : (ActorKind → List ℕ) → List Actor → List ℕ
-numbers_of number [] = []
-numbers_of number (actor ∷ actors) = number actor.kind ++ numbers_of number actors
 
 -- the numbers are 0, 1 and so on without a gap, each once
 abbrev pub IsNumbering : List ℕ → Type 0
@@ -76,8 +72,8 @@ pub record IsProper (net : Net) : Type 0 where
   pub few_actors : length net.actors ≤ limit_number limit.Actors
   pub few_rings : length net.rings ≤ limit_number limit.Rings
   pub few_slots : sum_by (λ ring. ring.size + 1) net.rings ≤ limit_number limit.Slots
-  pub inputs : IsNumbering (numbers_of input_of net.actors)
-  pub outputs : IsNumbering (numbers_of output_of net.actors)
+  pub inputs : IsNumbering (flat_map (λ actor. input_of actor.kind) net.actors)
+  pub outputs : IsNumbering (flat_map (λ actor. output_of actor.kind) net.actors)
   pub actors : (a : ℕ) (actor : Actor) → slice_get net.actors a ≡ Some actor → IsProperActor net a actor
   pub rings : (r : ℕ) (ring : RingSpec) → slice_get net.rings r ≡ Some ring → IsProperRing net r ring
 

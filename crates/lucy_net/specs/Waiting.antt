@@ -1,7 +1,7 @@
 -- Actors that wait for each other within an instant.
 use Rattle.std.specs.Prelude.{ℕ, ◌+◌, ◌-◌, ◌<◌, ◌≤◌, ◌≡◌, ◌++◌, ◌∷◌, [], List, map, length, nat_eq, count_by, slice_get, slice_set, slice_index, slice_index_or, take, drop, Some}
 use Rattle.lucy_stream.specs.Systems.{Takes}
-use Rattle.lucy_stream.specs.Needs.{Item}
+use Rattle.lucy_stream.specs.Needs.{StreamItem}
 use Rattle.lucy_net.specs.declared.net.Net.{Net}
 use Rattle.lucy_net.specs.Plans.{giver}
 use Rattle.lucy_net.specs.declared.settle.Wait.{Wait}
@@ -62,5 +62,5 @@ pub record IsTurnedToLeast (waits new_waits : List Wait) : Type 0 where
   pub turned : new_waits ≡ drop place waits ++ take place waits
 
 -- the items that they give in an instant, turned so
-abbrev pub AreItemsInTurn : Net → ℕ → List Wait → List Item → Type 0
+abbrev pub AreItemsInTurn : Net → ℕ → List Wait → List StreamItem → Type 0
 AreItemsInTurn net instant waits items = (turned : List Wait) × IsTurnedToLeast waits turned × (items ≡ map (λ wait. item_now net instant wait.actor) turned)

@@ -1,9 +1,8 @@
 // How many operations there are.
-ghost use Rattle.std.specs.Prelude.{◌≡◌, ◌+◌, ◌<◌, ◌≤◌, length, Some};
+ghost use Rattle.std.specs.Prelude.{◌≡◌, ◌+◌, ◌<◌, ◌≤◌, length};
 ghost use Rattle.lucy_stream.specs.Forms.{operands};
 ghost use Rattle.lucy_stream.specs.Operations.{ops_of};
-ghost use Rattle.lucy_stream.specs.Plans.{task_ops};
-ghost use Rattle.lucy_net.specs.Plans.{form_of, task_of};
+ghost use Rattle.lucy_net.specs.Plans.{form_of, actor_ops};
 ghost use Rattle.lucy_net.specs.Proper.{IsProper};
 ghost use Rattle.lucy_word.specs.Limits.{limit_number};
 ghost use Rattle.lucy_net.specs.Lengths.{takes_each, most_operations, operations_by};
@@ -41,7 +40,7 @@ fn operations_of(actor: &Actor, instants: u64) -> u64
     requires arity { length actor.now.takes ≡ operands (form_of actor.now.kind) }
     requires gives { length actor.now.gives ≤ limit_number Limit.Rings }
     requires early { instants ≤ limit_number Limit.Schedule }
-    ensures count { result ≡ length (task_ops (Some (task_of instants actor.now))) }
+    ensures count { result ≡ length (actor_ops instants actor.now) }
     ensures few { result ≤ most_operations }
 {
     operations(actor, actor.firing.ones(instants))

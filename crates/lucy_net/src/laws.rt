@@ -2,17 +2,17 @@
 ghost use Rattle.std.specs.Prelude.{ℕ, ◌≡◌, ◌↔◌, ◌+◌, ◌*◌, ◌≤◌, List, ℤ, All, length, slice_get, Some};
 ghost use Rattle.lucy_word.specs.Bits.{ones_to};
 ghost use Rattle.lucy_word.specs.Stored.{IsStored};
-ghost use Rattle.lucy_stream.specs.Needs.{Item, ReachesItself, IsCausal};
+ghost use Rattle.lucy_stream.specs.Needs.{StreamItem, ReachesItself, IsCausal};
 ghost use Rattle.lucy_stream.specs.Systems.{RingOp, IsWired, given, taken};
 ghost use Rattle.lucy_stream.specs.Runs.{IsWhole, IsWithin};
-ghost use Rattle.lucy_stream.specs.Plans.{IsPlugged, IsRunnable, task_ops, places_of};
+ghost use Rattle.lucy_stream.specs.Plans.{IsPlugged, IsRunnable, places_of};
 ghost use Rattle.lucy_stream.specs.Instants.{IsInstant};
 ghost use Rattle.lucy_stream.specs.Totals.{OnlyFirst};
 ghost use Rattle.lucy_net.specs.declared.net.Actor.{Actor};
 ghost use Rattle.lucy_net.specs.declared.net.RingSpec.{RingSpec};
 ghost use Rattle.lucy_net.specs.declared.net.Net.{Net};
 ghost use Rattle.lucy_net.specs.declared.state.ActorState.{ActorState};
-ghost use Rattle.lucy_net.specs.Plans.{plan, task_of, net_system, done_by};
+ghost use Rattle.lucy_net.specs.Plans.{plan, actor_ops, net_system, done_by};
 ghost use Rattle.lucy_net.specs.Proper.{IsProper, IsSupplied};
 ghost use Rattle.lucy_net.specs.States.{IsUsable, IsActorState, IsNext};
 ghost use Rattle.lucy_net.specs.Causal.{net_places, items_by};
@@ -57,7 +57,7 @@ pub fn orders_make_sound_schedules()
 /// No item that a whole run gives reaches itself; so a net with a sound schedule is causal, for each item is given in some
 /// instant.
 pub fn sound_schedules_are_causal()
-    ensures given { (net : Net) (instants : ℕ) (order : List ℕ) (x : Item) →
+    ensures given { (net : Net) (instants : ℕ) (order : List ℕ) (x : StreamItem) →
         IsProper net → IsWhole (net_system net instants) order → 1 ≤ x.number → x.number ≤ items_by (slice_get net.actors x.place) instants →
         ReachesItself (net_places net) x →
         ⊥ }
@@ -70,5 +70,5 @@ pub fn sound_schedules_are_causal()
 pub fn next_operations_are_planned()
     ensures { (actor : Actor) (instants n : ℕ) (took : List (List ℤ)) (state : ActorState) (op : RingOp) →
         IsActorState actor instants n took state →
-        IsNext actor state op ↔ slice_get (task_ops (Some (task_of instants actor))) n ≡ Some op }
+        IsNext actor state op ↔ slice_get (actor_ops instants actor) n ≡ Some op }
 {}

@@ -3,8 +3,7 @@ ghost use Rattle.std.specs.Prelude.{ℕ, ◌≡◌, ◌↔◌, ◌+◌, ◌<◌,
 ghost use Rattle.lucy_stream.specs.Forms.{operands};
 ghost use Rattle.lucy_stream.specs.Systems.{RingOp, Takes, Gives};
 ghost use Rattle.lucy_stream.specs.Operations.{firing_ops};
-ghost use Rattle.lucy_stream.specs.Plans.{task_ops};
-ghost use Rattle.lucy_net.specs.Plans.{form_of, task_of};
+ghost use Rattle.lucy_net.specs.Plans.{form_of, actor_ops};
 ghost use Rattle.lucy_net.specs.Moves.{move_of};
 ghost use Rattle.lucy_net.specs.Cursors.{IsCursor, HasCursor};
 ghost use Rattle.lucy_net.specs.States.{IsUsable, IsActorState, IsOfActor, IsNext, IsPlain, operand_at, took_more};
@@ -67,7 +66,7 @@ pub fn next_move(actor: &Actor, state: &ActorState) -> Move
     ensures next { (op : RingOp) → IsNext actor.now state.now op → result ≡ move_of (Some op) }
     ensures done { (result ≡ Move.Done) ↔ (state.now.quota ≤ state.now.fired) }
     ensures planned { (instants n : ℕ) (took : List (List ℤ)) → IsActorState actor.now instants n took state.now →
-        result ≡ move_of (slice_get (task_ops (Some (task_of instants actor.now))) n) }
+        result ≡ move_of (slice_get (actor_ops instants actor.now) n) }
 {
     if state.fired < state.quota {
         move_by(actor, bit_under(&actor.kind, state.cursor), state.step)

@@ -16,9 +16,9 @@ use Rattle.lucy_net.specs.Schedules.{Timetable, IsScheduleOf}
 use Rattle.lucy_core.specs.Seen.{Seen, IsOutputOf, CanMakeCore, first_seen, after_picks}
 use Rattle.lucy_runner.specs.Views.{RingView, RunnerView, inputs_for, first_runner}
 use Rattle.lucy_runner.specs.Blocks.{longer_inputs, grown_seen}
+use Rattle.lucy_results.proofs.OutputLaws.{first_unbegun}
 use Rattle.lucy_net_rows.specs.Ready.{HasOneList}
 use Rattle.lucy_net_rows.specs.Echo.{giver, taker, ring, echo, IsEchoReady, IsEcho}
-use Rattle.lucy_net_rows.proofs.ReadyLaws.{first_unbegun}
 
 giver_proper : (w : Bits) → IsProperActor (echo w) 0 (giver w)
 giver_proper w = record { gives = refl; takes = refl; arity = refl; gives_none = tt }

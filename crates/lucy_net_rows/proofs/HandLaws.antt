@@ -1,25 +1,28 @@
 -- Ends among the parts of two workers.
-use Rattle.std.proofs.Common.{ℕ, zero, suc, ◌⊎◌, ◌+◌, ◌-◌, ◌<◌, ◌≤◌, ◌≡◌, Bool, true, false, List, [], ◌∷◌, ◌++◌, length, length-append, get_or, set, take, ap, sym, refl, ◌∙◌, subst, inl, inr, arith}
+use Rattle.std.proofs.Common.{ℕ, ◌+◌, ◌-◌, ◌<◌, ◌≤◌, ◌≡◌, Bool, true, false, List, [], ◌∷◌, ◌++◌, length, length-append, get_or, set, take, ap, sym, refl, ◌∙◌, subst, inl, inr, arith}
 use Rattle.std.specs.Prelude.{ℤ, All, Some, slice_get, vec_capacity}
 use Rattle.std.proofs.lemmas.Bool.{cases_eq}
 use Rattle.std.proofs.lemmas.List.Sums.{sum_by_more}
 use Rattle.std.proofs.lemmas.Option.{slice_get-get_or, slice_get_within, get_or_from_slice_get}
 use Rattle.std.proofs.lemmas.List.Elements.{All-set, All-push, All-same, All-weaker}
+use Rattle.lucy_word.proofs.Lists.{get_set_other, get_one}
 use Rattle.lucy_host.specs.declared.kind.HostKind.{HostKind}
+use Rattle.lucy_host.proofs.Elements.{get_last, get_left}
 use Rattle.lucy_net.specs.declared.kind.ActorKind.{ActorKind}
 use Rattle.lucy_net.specs.declared.kind.ActorKind.TheVariants.{Input, Lit, Op, Host, When, Merge, Fby, Pass, Output}
 use Rattle.lucy_net.specs.declared.net.Net.{Net}
 use Rattle.lucy_net.specs.declared.net.Actor.{Actor}
 use Rattle.lucy_net.specs.States.{IsUsable}
 use Rattle.lucy_ring.specs.Views.{GiverView, TakerView}
+use Rattle.lucy_core.proofs.ListLaws.{get_push}
 use Rattle.lucy_worker.specs.declared.part.Part.{Part}
 use Rattle.lucy_worker.specs.declared.place.EndPlace.{EndPlace}
 use Rattle.lucy_worker.specs.News.{HasItems, HasRoom, IsNew, few_moved, ends_of, ends_by}
 use Rattle.lucy_worker.specs.Turns.{HaveRun}
 use Rattle.lucy_worker.specs.Meets.{HasGiver, HasTaker, MetBetween, MetWithin}
 use Rattle.lucy_worker.specs.Laws.{KeepsGiver, KeepsTaker, IsPlace, OthersStay, AreEndsAt, RunsKeepEnds, OwnMeetingsKeepEnds, MeetingsKeepEnds, KeptEndsAreOfOneRing}
-use Rattle.lucy_worker.proofs.EndLaws.{one_giver, one_taker}
-use Rattle.lucy_worker.proofs.WithinLaws.{get_beside, get_set, get_left, get_right}
+use Rattle.lucy_worker.proofs.EndLaws.{ends_at}
+use Rattle.lucy_worker.proofs.WithinLaws.{get_set}
 use Rattle.lucy_net_rows.specs.declared.parity.End.{End}
 use Rattle.lucy_net_rows.specs.declared.parity.Link.{Link}
 use Rattle.lucy_net_rows.specs.ByHand.{side, IsLinked, AreLinked, AreOneEnd, HaveOwnEnds, AreApart, HasMetByHand, IsBegun, HasOneMoreGiver, HasOneMoreTaker, KeepEnds, HasGainedGiver, HasGainedTaker, BothKeepEnds, BothBegun, HaveGainedGiver, HaveGainedTaker, HaveJoined, AreJoined}
@@ -35,19 +38,6 @@ nowhere = record { giver = nowhere_end; taker = nowhere_end }
 grown : {X : Type 0} (xs : List X) (y x : X) (k : ℕ) → slice_get xs k ≡ Some x → slice_get (xs ++ y ∷ []) k ≡ Some x
 grown xs y x k at = get_left xs (y ∷ []) k (slice_get_within xs k x at) ∙ at
 
-last : {X : Type 0} (xs : List X) (y : X) → slice_get (xs ++ y ∷ []) (length xs) ≡ Some y
-last xs y = get_right xs (y ∷ []) (length xs) refl
-
--- what is read from a list that grew
-read_grown : {X : Type 0} (xs : List X) (y x : X) (k : ℕ) → slice_get (xs ++ y ∷ []) k ≡ Some x → (slice_get xs k ≡ Some x) ⊎ ((k ≡ length xs) × (x ≡ y))
-read_grown [] y x zero at = inr (refl, (cc))
-read_grown [] y x (suc k) at = absurd (cc)
-read_grown (z ∷ xs) y x zero at = inl at
-read_grown (z ∷ xs) y x (suc k) at = elim (read_grown xs y x k at) [
-  | inl old ↦ inl old
-  | inr new ↦ inr (ap suc new.0, new.1)
-]
-
 -- what is kept is kept further
 kept_giver : (ps qs rs : List Part) (place : EndPlace) → KeepsGiver ps qs place → KeepsGiver qs rs place → KeepsGiver ps rs place
 kept_giver ps qs rs place a b = λ g. (let h = a g in let i = b h.0 in (i.0, i.1 ∙ h.1))
@@ -57,14 +47,6 @@ kept_taker ps qs rs place a b = λ t. (let u = a t in let v = b u.0 in (v.0, v.1
 
 all_kept : (ps : List Part) → KeepEnds ps ps
 all_kept ps = λ place. (λ g. (g, refl), λ t. (t, refl))
-
--- ends of which the names are told are those of one ring
-ends_at : (ps qs : List Part) (giver taker : EndPlace) (x : HasGiver ps giver) (y : HasTaker qs taker) → x.end.ring ≡ y.end.ring → AreEndsAt ps giver qs taker
-ends_at ps qs giver taker x y same = record {
-  giver = x;
-  taker = y;
-  ring = λ v w. ap (λ (e : GiverView). e.ring) (one_giver ps giver v x) ∙ same ∙ ap (λ (e : TakerView). e.ring) (one_taker qs taker y w);
-}
 
 -- one part more
 pub begun_more : (ps qs : List Part) (p : Part) → qs ≡ ps ++ p ∷ [] → All IsBegun ps → IsBegun p → All IsBegun qs
@@ -83,27 +65,23 @@ begun_taker p q at t b none more =
     let same : IsBegun (record p { takers = q.takers }) = record { usable = b.usable; state = b.state; room = b.room; given = b.given; taken = all } in
     subst IsBegun (sym more.rest) same
 
--- the part that is read where one was put
-one_part : (ps : List Part) (k : ℕ) (p q : Part) → slice_get ps k ≡ Some p → slice_get ps k ≡ Some q → p ≡ q
-one_part ps k p q e f = cc
-
 -- the parts keep all ends where one of them has one more
 giver_keeps : (ps : List Part) (k at : ℕ) (p q : Part) (g : GiverView) → slice_get ps k ≡ Some p → HasOneMoreGiver p at g q → KeepEnds ps (set ps k q)
 giver_keeps ps k at p q g here more = λ place. (
   λ was. elim (cases_eq place.part k) [
     | inl same ↦
-        let part : p ≡ was.part = one_part ps k p was.part here (ap (slice_get ps) (sym same) ∙ was.part_is) in
+        let part : p ≡ was.part = get_one ps k p was.part here (ap (slice_get ps) (sym same) ∙ was.part_is) in
         let end : slice_get q.givers.items place.number ≡ Some was.end = ap (λ (xs : List GiverView). slice_get xs place.number) more.on ∙ grown p.givers.items g was.end place.number (ap (λ (x : Part). slice_get x.givers.items place.number) part ∙ was.end_is) in
         (record { part = q; part_is = ap (slice_get (set ps k q)) same ∙ get_set ps k p q here; end = was.end; end_is = end }, refl)
-    | inr other ↦ (record { part = was.part; part_is = get_beside ps k place.part q other ∙ was.part_is; end = was.end; end_is = was.end_is }, refl)
+    | inr other ↦ (record { part = was.part; part_is = get_set_other ps k place.part q other ∙ was.part_is; end = was.end; end_is = was.end_is }, refl)
   ],
   λ was. elim (cases_eq place.part k) [
     | inl same ↦
-        let part : p ≡ was.part = one_part ps k p was.part here (ap (slice_get ps) (sym same) ∙ was.part_is) in
+        let part : p ≡ was.part = get_one ps k p was.part here (ap (slice_get ps) (sym same) ∙ was.part_is) in
         let takers : q.takers ≡ p.takers = ap (λ (x : Part). x.takers) more.rest in
         let end : slice_get q.takers.items place.number ≡ Some was.end = ap (λ ts. slice_get ts.items place.number) takers ∙ ap (λ (x : Part). slice_get x.takers.items place.number) part ∙ was.end_is in
         (record { part = q; part_is = ap (slice_get (set ps k q)) same ∙ get_set ps k p q here; end = was.end; end_is = end }, refl)
-    | inr other ↦ (record { part = was.part; part_is = get_beside ps k place.part q other ∙ was.part_is; end = was.end; end_is = was.end_is }, refl)
+    | inr other ↦ (record { part = was.part; part_is = get_set_other ps k place.part q other ∙ was.part_is; end = was.end; end_is = was.end_is }, refl)
   ],
 )
 
@@ -111,18 +89,18 @@ taker_keeps : (ps : List Part) (k at : ℕ) (p q : Part) (t : TakerView) → sli
 taker_keeps ps k at p q t here more = λ place. (
   λ was. elim (cases_eq place.part k) [
     | inl same ↦
-        let part : p ≡ was.part = one_part ps k p was.part here (ap (slice_get ps) (sym same) ∙ was.part_is) in
+        let part : p ≡ was.part = get_one ps k p was.part here (ap (slice_get ps) (sym same) ∙ was.part_is) in
         let givers : q.givers ≡ p.givers = ap (λ (x : Part). x.givers) more.rest in
         let end : slice_get q.givers.items place.number ≡ Some was.end = ap (λ gs. slice_get gs.items place.number) givers ∙ ap (λ (x : Part). slice_get x.givers.items place.number) part ∙ was.end_is in
         (record { part = q; part_is = ap (slice_get (set ps k q)) same ∙ get_set ps k p q here; end = was.end; end_is = end }, refl)
-    | inr other ↦ (record { part = was.part; part_is = get_beside ps k place.part q other ∙ was.part_is; end = was.end; end_is = was.end_is }, refl)
+    | inr other ↦ (record { part = was.part; part_is = get_set_other ps k place.part q other ∙ was.part_is; end = was.end; end_is = was.end_is }, refl)
   ],
   λ was. elim (cases_eq place.part k) [
     | inl same ↦
-        let part : p ≡ was.part = one_part ps k p was.part here (ap (slice_get ps) (sym same) ∙ was.part_is) in
+        let part : p ≡ was.part = get_one ps k p was.part here (ap (slice_get ps) (sym same) ∙ was.part_is) in
         let end : slice_get q.takers.items place.number ≡ Some was.end = ap (λ (xs : List TakerView). slice_get xs place.number) more.on ∙ grown p.takers.items t was.end place.number (ap (λ (x : Part). slice_get x.takers.items place.number) part ∙ was.end_is) in
         (record { part = q; part_is = ap (slice_get (set ps k q)) same ∙ get_set ps k p q here; end = was.end; end_is = end }, refl)
-    | inr other ↦ (record { part = was.part; part_is = get_beside ps k place.part q other ∙ was.part_is; end = was.end; end_is = was.end_is }, refl)
+    | inr other ↦ (record { part = was.part; part_is = get_set_other ps k place.part q other ∙ was.part_is; end = was.end; end_is = was.end_is }, refl)
   ],
 )
 
@@ -133,12 +111,12 @@ giver_gained ps k at p q g all none here more =
       begun = All-set IsBegun ps k q (begun_giver p q at g begun none more) all;
       keep = giver_keeps ps k at p q g here more;
       none = λ was.
-          (let part : p ≡ was.part = one_part ps k p was.part here was.part_is in
+          (let part : p ≡ was.part = get_one ps k p was.part here was.part_is in
           let within : at < length was.part.givers.items = slice_get_within was.part.givers.items at was.end was.end_is in
           let long : length p.givers.items ≡ length was.part.givers.items = ap (λ (x : Part). length x.givers.items) part in
           let number : at ≡ length p.givers.items = more.number in
           absurd (omega arith));
-      there = record { part = q; part_is = get_set ps k p q here; end = g; end_is = ap (slice_get q.givers.items) more.number ∙ ap (λ (xs : List GiverView). slice_get xs (length p.givers.items)) more.on ∙ last p.givers.items g };
+      there = record { part = q; part_is = get_set ps k p q here; end = g; end_is = ap (slice_get q.givers.items) more.number ∙ ap (λ (xs : List GiverView). slice_get xs (length p.givers.items)) more.on ∙ get_last p.givers.items g };
       is = refl;
     }
 
@@ -149,12 +127,12 @@ taker_gained ps k at p q t all none here more =
       begun = All-set IsBegun ps k q (begun_taker p q at t begun none more) all;
       keep = taker_keeps ps k at p q t here more;
       none = λ was.
-          (let part : p ≡ was.part = one_part ps k p was.part here was.part_is in
+          (let part : p ≡ was.part = get_one ps k p was.part here was.part_is in
           let within : at < length was.part.takers.items = slice_get_within was.part.takers.items at was.end was.end_is in
           let long : length p.takers.items ≡ length was.part.takers.items = ap (λ (x : Part). length x.takers.items) part in
           let number : at ≡ length p.takers.items = more.number in
           absurd (omega arith));
-      there = record { part = q; part_is = get_set ps k p q here; end = t; end_is = ap (slice_get q.takers.items) more.number ∙ ap (λ (xs : List TakerView). slice_get xs (length p.takers.items)) more.on ∙ last p.takers.items t };
+      there = record { part = q; part_is = get_set ps k p q here; end = t; end_is = ap (slice_get q.takers.items) more.number ∙ ap (λ (xs : List TakerView). slice_get xs (length p.takers.items)) more.on ∙ get_last p.takers.items t };
       is = refl;
     }
 
@@ -244,16 +222,16 @@ none_joined even odd begun = record { begun = begun; linked = λ k link e. absur
 pub more_joined : (even odd even' odd' : List Part) (links : List Link) (link : Link) → KeptEndsAreOfOneRing → AreJoined even odd links → HaveJoined even odd link even' odd' → AreJoined even' odd' (links ++ link ∷ [])
 more_joined even odd even' odd' links link rings are made = record {
   begun = made.begun;
-  linked = λ k l e. elim (read_grown links link l k e) [
+  linked = λ k l e. elim (get_push links link l k e) [
     | inl old ↦ kept_linked even odd even' odd' l rings made.keep (are.linked k l old)
     | inr new ↦ subst (IsLinked even' odd') (sym new.1) made.linked
   ];
-  apart = λ j k a b e f ne. elim (read_grown links link a j e) [
-    | inl first ↦ elim (read_grown links link b k f) [
+  apart = λ j k a b e f ne. elim (get_push links link a j e) [
+    | inl first ↦ elim (get_push links link b k f) [
       | inl second ↦ are.apart j k a b first second ne
       | inr second ↦ subst (HaveOwnEnds a) (sym second.1) (own_ends even odd even' odd' a link (are.linked j a first) made)
     ]
-    | inr first ↦ elim (read_grown links link b k f) [
+    | inr first ↦ elim (get_push links link b k f) [
       | inl second ↦ subst (λ (l : Link). HaveOwnEnds l b) (sym first.1) (turned_ends b link (own_ends even odd even' odd' b link (are.linked k b second) made))
       | inr second ↦ absurd (ne (first.0 ∙ sym second.0))
     ]

@@ -11,9 +11,8 @@ use crate::page::Page;
 use crate::parity::{Link, first_parts, join_all};
 use lucy_host::Host;
 use lucy_net::{ActorKind, Net, proper_nets_are_plugged};
-use lucy_word::OutOfMemory;
 use lucy_worker::{OpenGate, Part, Worker, ends_are_kept, meet_between};
-use std::alloc::Global;
+use std::alloc::{AllocError, Global};
 use std::marker::Model;
 
 /// The two workers, and where the ends of each ring are. Contracts see how many rings there are.
@@ -42,7 +41,7 @@ impl ByHand {
         net: &Net,
         items: &[i64],
         instants: u64,
-    ) -> Result<ByHand, OutOfMemory>
+    ) -> Result<ByHand, AllocError>
         requires { IsProper net.now }
     {
         let mut even = Vec::new(alloc);
@@ -54,7 +53,7 @@ impl ByHand {
                 odd: Worker::new(1, odd),
                 links,
             }),
-            Err(_) => Err(OutOfMemory),
+            Err(_) => Err(AllocError),
         }
     }
 
@@ -120,7 +119,7 @@ fn fill(
     even: &mut Vec<Part>,
     odd: &mut Vec<Part>,
     links: &mut Vec<Link>,
-) -> Result<(), OutOfMemory>
+) -> Result<(), AllocError>
     requires proper { IsProper net.now }
     requires none { (even.old.items ≡ []) × (odd.old.items ≡ []) × (links.old.items ≡ []) }
     ensures joined { OnOk result (AreJoined even.new.items odd.new.items links.new.items) }
@@ -133,7 +132,7 @@ fn fill(
     if are_complete(even) && are_complete(odd) {
         Ok(())
     } else {
-        Err(OutOfMemory)
+        Err(AllocError)
     }
 }
 

@@ -11,7 +11,7 @@ use lucy_core::Core;
 use lucy_host::Ops;
 use lucy_net::{Actor, ActorKind, Actors, Net, Numbers, RingSpec, Rings, schedule_of};
 use lucy_runner::Runner;
-use lucy_word::{OutOfMemory, Word};
+use lucy_word::Word;
 use std::alloc::{AllocError, Global};
 
 // No number, or the number 0.
@@ -27,7 +27,7 @@ fn numbers(alloc: Global, zero: bool) -> Result<Numbers, AllocError>
 }
 
 // The actor that gives to ring 0, or the one that takes from it.
-fn actor(alloc: Global, word: &Word, is_input: bool) -> Result<Actor, OutOfMemory>
+fn actor(alloc: Global, word: &Word, is_input: bool) -> Result<Actor, AllocError>
     ensures input { is_input ≡ true → IfOk result (λ a. a ≡ giver word.now) }
     ensures output { is_input ≡ false → IfOk result (λ a. a ≡ taker word.now) }
 {
@@ -48,7 +48,7 @@ fn actor(alloc: Global, word: &Word, is_input: bool) -> Result<Actor, OutOfMemor
 }
 
 // The ring between them.
-fn between(alloc: Global, word: &Word) -> Result<RingSpec, OutOfMemory>
+fn between(alloc: Global, word: &Word) -> Result<RingSpec, AllocError>
     ensures { IfOk result (λ spec. spec ≡ ring word.now) }
 {
     let write = word.copy(alloc)?;
@@ -68,7 +68,7 @@ fn fill(
     word: &Word,
     actors: &mut Vec<Actor>,
     rings: &mut Vec<RingSpec>,
-) -> Result<(), OutOfMemory>
+) -> Result<(), AllocError>
     requires empty { (actors.old.items ≡ []) × (rings.old.items ≡ []) }
     ensures actors { OnOk result (actors.new.items ≡ giver word.now ∷ taker word.now ∷ []) }
     ensures rings { OnOk result (rings.new.items ≡ ring word.now ∷ []) }
@@ -78,7 +78,7 @@ fn fill(
     push(rings, between(alloc, word)?)
 }
 
-fn net(alloc: Global, word: &Word) -> Result<Net, OutOfMemory>
+fn net(alloc: Global, word: &Word) -> Result<Net, AllocError>
     ensures { IfOk result (λ net. net ≡ echo word.now) }
 {
     let mut actors = Vec::new(alloc);
@@ -88,12 +88,12 @@ fn net(alloc: Global, word: &Word) -> Result<Net, OutOfMemory>
             actors: Actors::new(actors),
             rings: Rings::new(rings),
         }),
-        Err(_) => Err(OutOfMemory),
+        Err(_) => Err(AllocError),
     }
 }
 
 // A core of the net, for as many instants as there are items.
-fn core(alloc: Global, ops: &Ops, word: &Word, items: &[u32]) -> Result<Core, OutOfMemory>
+fn core(alloc: Global, ops: &Ops, word: &Word, items: &[u32]) -> Result<Core, AllocError>
     requires { length items.now ≤ limit_number lim.Instants }
     ensures { IfOk result (IsEchoReady word.now ops.now (length items.now)) }
 {
@@ -104,7 +104,7 @@ fn core(alloc: Global, ops: &Ops, word: &Word, items: &[u32]) -> Result<Core, Ou
             let instants = items.len() as u64;
             Core::new(alloc, net, schedule, inputs, ops, instants)
         }
-        Err(_) => Err(OutOfMemory),
+        Err(_) => Err(AllocError),
     }
 }
 
@@ -116,7 +116,7 @@ pub(crate) fn runner(
     word: &Word,
     items: &[u32],
     workers: u32,
-) -> Result<Runner, OutOfMemory>
+) -> Result<Runner, AllocError>
     requires few { length items.now ≤ limit_number lim.Instants }
     requires workers { (1 ≤ workers) × (workers ≤ 64) }
     ensures echo { IfOk result (λ runner. IsEcho ops.now runner.seen) }
@@ -134,7 +134,7 @@ pub(crate) fn grow(
     ops: &Ops,
     item: u32,
     instants: u64,
-) -> Result<(), OutOfMemory>
+) -> Result<(), AllocError>
     requires echo { IsEcho ops.now runner.old.seen }
     requires over { IsOver runner.old.seen }
     requires at { runner.old.seen.instants ≡ instants }

@@ -8,9 +8,9 @@ ghost use Rattle.lucy_net_rows.specs.ByHand.{IsBegun, HasGainedGiver, HasGainedT
 use crate::lists::push;
 use lucy_net::{Actor, ActorKind, RingSpec, first_state};
 use lucy_ring::{Giver, Taker, ring};
-use lucy_word::{Limit, OutOfMemory};
+use lucy_word::Limit;
 use lucy_worker::{EndPlace, Part, ends_are_kept};
-use std::alloc::Global;
+use std::alloc::{AllocError, Global};
 
 /// An end of a ring: whether it is among the parts of odd actors, and its place there.
 #[derive(Clone, Copy)]
@@ -30,7 +30,7 @@ pub(crate) struct Link {
 const MOST_ENDS: usize = 1_024;
 
 // The items of an input; no other actor has any.
-fn input_of(alloc: Global, kind: &ActorKind, items: &[i64]) -> Result<Vec<i64>, OutOfMemory> {
+fn input_of(alloc: Global, kind: &ActorKind, items: &[i64]) -> Result<Vec<i64>, AllocError> {
     match kind {
         ActorKind::Input(_) => Ok(items.to_vec(alloc)?),
         _ => Ok(Vec::new(alloc)),
@@ -44,7 +44,7 @@ fn first_part(
     actor: &Actor,
     items: &[i64],
     instants: u64,
-) -> Result<Part, OutOfMemory>
+) -> Result<Part, AllocError>
     requires { IsUsable actor.now }
     ensures { IfOk result IsBegun }
 {
@@ -71,7 +71,7 @@ pub(crate) fn first_parts(
     instants: u64,
     even: &mut Vec<Part>,
     odd: &mut Vec<Part>,
-) -> Result<(), OutOfMemory>
+) -> Result<(), AllocError>
     requires few { length actors.now ≤ limit_number lim.Actors }
     requires usable { All IsUsable actors.now }
     requires begun { All IsBegun even.old.items × All IsBegun odd.old.items }
@@ -89,26 +89,23 @@ pub(crate) fn first_parts(
 }
 
 // The two ends of a new ring of its size and one slot more.
-fn ends_of(alloc: Global, spec: &RingSpec) -> Result<(Giver, Taker), OutOfMemory>
+fn ends_of(alloc: Global, spec: &RingSpec) -> Result<(Giver, Taker), AllocError>
     ensures name { IfOk result (λ r. r.0.ring ≡ r.1.ring) }
     ensures new { IfOk result (λ r. (r.0.given ≡ []) × (r.1.taken ≡ [])) }
 {
     let size = spec.size.min(Limit::Slots.number() - 1);
-    match ring(alloc, size as u32 + 1) {
-        Ok(ends) => Ok(ends),
-        Err(_) => Err(OutOfMemory),
-    }
+    ring(alloc, size as u32 + 1)
 }
 
 // Gives the part of this number, where there is one, a giver more.
-fn give_one(parts: &mut Vec<Part>, part: u32, giver: Giver) -> Result<EndPlace, OutOfMemory>
+fn give_one(parts: &mut Vec<Part>, part: u32, giver: Giver) -> Result<EndPlace, AllocError>
     requires begun { All IsBegun parts.old.items }
     requires new { giver.given ≡ [] }
     ensures { IfOk result (λ place. HasGainedGiver parts.old.items place giver parts.new.items) }
 {
     let place = part as usize;
     if place >= parts.len() || parts[place].givers.len() >= MOST_ENDS {
-        return Err(OutOfMemory);
+        return Err(AllocError);
     }
     let one = &mut parts[place];
     let number = one.givers.len() as u32;
@@ -117,14 +114,14 @@ fn give_one(parts: &mut Vec<Part>, part: u32, giver: Giver) -> Result<EndPlace, 
 }
 
 // A taker more.
-fn take_one(parts: &mut Vec<Part>, part: u32, taker: Taker) -> Result<EndPlace, OutOfMemory>
+fn take_one(parts: &mut Vec<Part>, part: u32, taker: Taker) -> Result<EndPlace, AllocError>
     requires begun { All IsBegun parts.old.items }
     requires new { taker.taken ≡ [] }
     ensures { IfOk result (λ place. HasGainedTaker parts.old.items place taker parts.new.items) }
 {
     let place = part as usize;
     if place >= parts.len() || parts[place].takers.len() >= MOST_ENDS {
-        return Err(OutOfMemory);
+        return Err(AllocError);
     }
     let one = &mut parts[place];
     let number = one.takers.len() as u32;
@@ -138,7 +135,7 @@ fn give_to(
     odd: &mut Vec<Part>,
     actor: u32,
     giver: Giver,
-) -> Result<End, OutOfMemory>
+) -> Result<End, AllocError>
     requires begun { All IsBegun even.old.items × All IsBegun odd.old.items }
     requires new { giver.given ≡ [] }
     ensures { IfOk result (λ end. HaveGainedGiver even.old.items odd.old.items end giver even.new.items odd.new.items) }
@@ -158,7 +155,7 @@ fn take_to(
     odd: &mut Vec<Part>,
     actor: u32,
     taker: Taker,
-) -> Result<End, OutOfMemory>
+) -> Result<End, AllocError>
     requires begun { All IsBegun even.old.items × All IsBegun odd.old.items }
     requires new { taker.taken ≡ [] }
     ensures { IfOk result (λ end. HaveGainedTaker even.old.items odd.old.items end taker even.new.items odd.new.items) }
@@ -178,7 +175,7 @@ fn join(
     spec: &RingSpec,
     even: &mut Vec<Part>,
     odd: &mut Vec<Part>,
-) -> Result<Link, OutOfMemory>
+) -> Result<Link, AllocError>
     requires { All IsBegun even.old.items × All IsBegun odd.old.items }
     ensures { IfOk result (λ link. HaveJoined even.old.items odd.old.items link even.new.items odd.new.items) }
 {
@@ -195,7 +192,7 @@ pub(crate) fn join_all(
     even: &mut Vec<Part>,
     odd: &mut Vec<Part>,
     links: &mut Vec<Link>,
-) -> Result<(), OutOfMemory>
+) -> Result<(), AllocError>
     requires begun { All IsBegun even.old.items × All IsBegun odd.old.items }
     requires none { links.old.items ≡ [] }
     ensures { OnOk result (AreJoined even.new.items odd.new.items links.new.items) }

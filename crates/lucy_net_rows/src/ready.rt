@@ -18,23 +18,17 @@ use lucy_host::{Inputs, Ops};
 use lucy_net::{Net, Schedule};
 use lucy_place::Placed;
 use lucy_results::{horizon, nets_can_be_run, param_words};
-use lucy_word::{Limit, OutOfMemory};
-use std::alloc::Global;
+use lucy_word::Limit;
+use std::alloc::{AllocError, Global};
 
 /// One input, of these items.
-pub(crate) fn one_input(alloc: Global, items: &[u32]) -> Result<Inputs, OutOfMemory>
+pub(crate) fn one_input(alloc: Global, items: &[u32]) -> Result<Inputs, AllocError>
     ensures { IfOk result (HasOneList (length items.now)) }
 {
     let mut inputs = Inputs::new(alloc);
-    match inputs.add_list(alloc) {
-        Ok(()) => {}
-        Err(_) => return Err(OutOfMemory),
-    }
+    inputs.add_list(alloc)?;
     'items: for item in items {
-        match inputs.push(alloc, 0, i64::from(*item)) {
-            Ok(()) => {}
-            Err(_) => return Err(OutOfMemory),
-        }
+        inputs.push(alloc, 0, i64::from(*item))?;
     }
     Ok(inputs)
 }
@@ -70,7 +64,7 @@ pub(crate) fn core_of(
     schedule: Schedule,
     ops: &Ops,
     items: &[u32],
-) -> Result<Core, OutOfMemory>
+) -> Result<Core, AllocError>
     requires clocked { AreClocked placed.now.nodes clocks.now }
     requires flat { IsFlat placed.now.nodes clocks.now net }
     requires sound { IsSound net (events_at schedule) }
@@ -85,6 +79,6 @@ pub(crate) fn core_of(
     let instants = instants_of(placed, clocks, items.len() as u64);
     match one_input(alloc, items) {
         Ok(inputs) => Core::new(alloc, net, schedule, inputs, ops, instants),
-        Err(_) => Err(OutOfMemory),
+        Err(_) => Err(AllocError),
     }
 }

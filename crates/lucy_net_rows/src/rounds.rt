@@ -13,9 +13,8 @@ use lucy_host::Host;
 use lucy_place::Placed;
 use lucy_results::homes_of;
 use lucy_runner::Runner;
-use lucy_word::OutOfMemory;
 use lucy_worker::Gate;
-use std::alloc::Global;
+use std::alloc::{AllocError, Global};
 use std::sync::atomic::{AtomicU64, Ordering};
 use std::thread::Threads;
 
@@ -45,7 +44,7 @@ fn events_done(runner: &Runner, actors: u32) -> u64
 }
 
 // A runner of a core, which has so many actors, by 1 to 64 workers: actor `a` is in worker `a mod workers`.
-fn runner_of(alloc: Global, core: Core, actors: u32, workers: u32) -> Result<Runner, OutOfMemory>
+fn runner_of(alloc: Global, core: Core, actors: u32, workers: u32) -> Result<Runner, AllocError>
     requires unbegun { IsUnbegun core }
     requires actors { actors ≡ length core.net.actors }
     requires workers { (1 ≤ workers) × (workers ≤ 64) }
@@ -54,7 +53,7 @@ fn runner_of(alloc: Global, core: Core, actors: u32, workers: u32) -> Result<Run
 {
     match homes_of(alloc, actors as usize, workers) {
         Ok(homes) => Runner::new(alloc, core, workers, &homes),
-        Err(_) => Err(OutOfMemory),
+        Err(_) => Err(AllocError),
     }
 }
 

@@ -1,20 +1,15 @@
 -- How what is put last goes on.
-use Rattle.std.proofs.Common.{ℕ, ◌+◌, ◌-◌, ◌≤◌, ◌≡◌, List, [], ◌∷◌, ◌++◌, Option, Some, None, sym, ap, ◌∙◌, subst, refl, arith, append_assoc, append-nil, length, take, drop}
+use Rattle.std.proofs.Common.{ℕ, ◌+◌, ◌≤◌, ◌≡◌, List, [], ◌++◌, Option, Some, None, sym, ap, ◌∙◌, subst, refl, append_assoc, append-nil, length, take, drop}
 use Rattle.std.specs.Prelude.{slice_get, slice_range}
-use Rattle.std.proofs.lemmas.List.{take-append-drop, drop-drop, drop_all, drop_more}
-use Rattle.std.proofs.lemmas.Option.{slice_get_within, get_or_from_slice_get}
+use Rattle.std.proofs.lemmas.List.{drop_all}
+use Rattle.std.proofs.lemmas.List.Folds.{drop_split}
 use Rattle.lucy_place.specs.declared.placed.PlacedNode.{PlacedNode}
+use Rattle.lucy_program.proofs.ReportLaws.{drop_at}
 use Rattle.lucy_svg.specs.Escaping.{escaped}
 use Rattle.lucy_page.specs.Reading.{read_html}
 use Rattle.lucy_page.specs.Pages.{section_end, node_begin, page_end, PutsSection, PutsBoth, AreSections, HasBoth}
 use Rattle.lucy_page.specs.Puts.{Reads, PutsTag, PutsOn, PutsNode}
 use Rattle.lucy_page.proofs.ReadLaws.{reads_nil, reads_more, reads_escaped}
-
--- a part of a list before what stands behind it
-splits : (text : List ℕ) (at to : ℕ) → at ≤ to → drop at text ≡ slice_range text at to ++ drop to text
-splits text at to h =
-    let sum : at + (to - at) ≡ to = omega arith in
-    sym (take-append-drop (to - at) (drop at text)) ∙ ap (λ l. slice_range text at to ++ l) (drop-drop (to - at) at text ∙ ap (λ n. drop n text) sum)
 
 -- nothing is put
 pub on_none : (text : List ℕ) (at : ℕ) (old : List ℕ) → PutsOn text at at old old
@@ -31,7 +26,7 @@ on_text text at to old new h puts = record {
   shown = slice_range text at to;
   puts = puts;
   reads = reads_escaped (slice_range text at to);
-  goes_on = splits text at to h;
+  goes_on = drop_split text at to h;
 }
 
 -- one behind the other
@@ -81,9 +76,6 @@ has_both begin text next told Behind head whole sections page both behind is = r
 abbrev pub Goes : List PlacedNode → (number : ℕ) (out : List ℕ) → Type 0
 Goes nodes number out = (rest : List ℕ) → AreSections number (drop number nodes) rest → AreSections 0 nodes (out ++ rest)
 
-drop_at : (nodes : List PlacedNode) (i : ℕ) (n : PlacedNode) → slice_get nodes i ≡ Some n → drop i nodes ≡ n ∷ drop (i + 1) nodes
-drop_at nodes i n is = drop_more nodes i n (slice_get_within nodes i n is) ∙ ap (λ y. y ∷ drop (i + 1) nodes) (get_or_from_slice_get nodes i n n is)
-
 -- one more
 goes_more : (nodes : List PlacedNode) (i : ℕ) (n : PlacedNode) (old new : List ℕ) → slice_get nodes i ≡ Some n → Goes nodes i old → PutsNode i (Some n) old new → Goes nodes (i + 1) new
 goes_more nodes i n old new is goes (body, puts) rest h =
@@ -104,10 +96,6 @@ goes_all nodes i out h goes =
     let P : List PlacedNode → Type 0 = λ ns. AreSections i ns [] in
     let Q : List ℕ → Type 0 = λ l. AreSections 0 nodes l in
     subst Q (append-nil out) (goes [] (subst P (sym (drop_all i nodes h)) refl))
-
--- three parts, one behind the other
-pub three : (o p q r a b d : List ℕ) → p ≡ o ++ a → q ≡ p ++ b → r ≡ q ++ d → r ≡ o ++ (a ++ (b ++ d))
-three o p q r a b d x y z = z ∙ ap (λ l. l ++ d) (y ∙ ap (λ l. l ++ b) x) ∙ append_assoc (o ++ a) b d ∙ append_assoc o a (b ++ d)
 
 -- the section of a node that stands there
 pub puts_node : (number : ℕ) (found : Option PlacedNode) (n : PlacedNode) (old p new name body : List ℕ) → found ≡ Some n → name ≡ n.name.text → p ≡ old ++ node_begin number name → new ≡ p ++ body →

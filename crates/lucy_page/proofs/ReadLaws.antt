@@ -3,6 +3,7 @@ use Rattle.std.proofs.Common.{ℕ, ◌≡◌, ◌≢◌, false, true, List, [], 
 use Rattle.std.specs.Prelude.{◌==◌, codes, if◌then◌else◌}
 use Rattle.std.proofs.lemmas.Bool.{cases_eq, ne_eqb}
 use Rattle.lucy_svg.specs.Escaping.{name_of, written, escaped_byte, escaped, before, plain, read_on, unescaped}
+use Rattle.lucy_svg.proofs.EscapeLaws.{no_name_of}
 use Rattle.lucy_page.specs.Reading.{without_tags, read_html}
 use Rattle.lucy_page.specs.Puts.{Reads}
 
@@ -12,9 +13,6 @@ record IsPlain (byte : ℕ) : Type 0 where
   no_begin : (byte == 60) ≡ false
   no_end : (byte == 62) ≡ false
   no_name : name_of byte ≡ None
-
-no_name_of : (byte : ℕ) → (byte == 34) ≡ false → (byte == 38) ≡ false → (byte == 39) ≡ false → (byte == 60) ≡ false → (byte == 62) ≡ false → name_of byte ≡ None
-no_name_of byte a b c d e = simp (a, b, c, d, e)
 
 -- what holds of a byte, by the marks
 by_mark : (P : ℕ → Type 0) → P 34 → P 38 → P 39 → P 60 → P 62 → ((byte : ℕ) → IsPlain byte → P byte) → (byte : ℕ) → P byte

@@ -1,6 +1,5 @@
 // Where the boxes of a net stand: in columns by layers, and in each column in rows, near the boxes that they read.
 use lucy_diagram::{Diagram, layers_of};
-use lucy_word::OutOfMemory;
 use std::alloc::{AllocError, Global};
 
 /// Where the box of a place stands: its column and its row, from 0.
@@ -166,7 +165,7 @@ fn spots_by(alloc: Global, diagram: &Diagram, wishes: &[Wish]) -> Result<Vec<Spo
 }
 
 /// Where the box of each place of a net stands, in order: in the column of its layer, and in a row of its own there.
-pub(crate) fn spots(alloc: Global, diagram: &Diagram) -> Result<Vec<Spot>, OutOfMemory> {
+pub(crate) fn spots(alloc: Global, diagram: &Diagram) -> Result<Vec<Spot>, AllocError> {
     let layers = layers_of(alloc, diagram)?;
     let wishes = wishes(alloc, &layers)?;
     Ok(spots_by(alloc, diagram, &wishes)?)

@@ -11,7 +11,6 @@ use lucy_place::{PlaceEntry, PlaceKind, PlacedNode};
 use lucy_program::Accepted;
 use lucy_svg::{NAME, SMALL, put, put_label, word_text};
 use lucy_tree::Program;
-use lucy_word::OutOfMemory;
 use std::alloc::{AllocError, Global};
 
 // How high a box is, and how far boxes stand from each other and from the edge.
@@ -78,7 +77,7 @@ fn label_of(
     number: u32,
     diagram: &Diagram,
     place: u32,
-) -> Result<Label, OutOfMemory>
+) -> Result<Label, AllocError>
     requires { number < length accepted.now.placed.nodes }
 {
     let words = match accepted.clocks.get(number as usize) {
@@ -98,12 +97,6 @@ fn label_of(
     Ok(Label { text, word })
 }
 
-// One more label.
-fn push(labels: &mut Vec<Label>, label: Label) -> Result<(), AllocError> {
-    labels.push(label)?;
-    Ok(())
-}
-
 // The labels of the places of a node, in order.
 fn labels(
     alloc: Global,
@@ -111,13 +104,13 @@ fn labels(
     accepted: &Accepted,
     number: u32,
     diagram: &Diagram,
-) -> Result<Vec<Label>, OutOfMemory>
+) -> Result<Vec<Label>, AllocError>
     requires { number < length accepted.now.placed.nodes }
 {
     let mut labels = Vec::new(alloc);
     for drawn in &diagram.places {
         let label = label_of(alloc, program, accepted, number, diagram, drawn.place)?;
-        push(&mut labels, label)?;
+        labels.push(label)?;
     }
     Ok(labels)
 }
@@ -213,7 +206,7 @@ impl Net {
         accepted: &Accepted,
         number: u32,
         diagram: &Diagram,
-    ) -> Result<Net, OutOfMemory>
+    ) -> Result<Net, AllocError>
         requires { number < length accepted.now.placed.nodes }
     {
         let labels = labels(alloc, program, accepted, number, diagram)?;
@@ -452,7 +445,7 @@ fn put_diagram(
     number: u32,
     diagram: &Diagram,
     out: &mut Vec<u8>,
-) -> Result<(), OutOfMemory>
+) -> Result<(), AllocError>
     requires { number < length accepted.now.placed.nodes }
 {
     let net = Net::new(alloc, program, accepted, number, diagram)?;
@@ -466,7 +459,7 @@ pub(crate) fn put_net(
     accepted: &Accepted,
     number: u32,
     out: &mut Vec<u8>,
-) -> Result<(), OutOfMemory>
+) -> Result<(), AllocError>
     requires accepted { (ops : List Operator) × (o : Choices) × (text : List ℕ) × IsAccepted ops o text accepted.now }
     requires node { number < length accepted.now.placed.nodes }
 {

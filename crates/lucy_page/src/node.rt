@@ -13,11 +13,10 @@ use lucy_picture::{Turn, turn_of};
 use lucy_program::Accepted;
 use lucy_svg::{Drawing, Sheet, drawing_of, put, shown_of, shown_text, turn_text};
 use lucy_tree::Program;
-use lucy_word::OutOfMemory;
 use std::alloc::{AllocError, Global};
 
 // Puts the chronogram last: the names stay where they are, and the lanes are moved behind them.
-fn put_sheet(alloc: Global, sheet: &Sheet<'_>, out: &mut Vec<u8>) -> Result<(), OutOfMemory> {
+fn put_sheet(alloc: Global, sheet: &Sheet<'_>, out: &mut Vec<u8>) -> Result<(), AllocError> {
     put(out, "<div class=\"chart\">")?;
     begin_svg(alloc, sheet.names, sheet.height, out)?;
     sheet.put_names(alloc, out)?;
@@ -52,7 +51,7 @@ fn put_drawing(
     shown: u64,
     drawing: &Drawing,
     out: &mut Vec<u8>,
-) -> Result<(), OutOfMemory>
+) -> Result<(), AllocError>
     requires { number < length accepted.now.placed.nodes }
 {
     let node = accepted.placed.node(number);
@@ -73,7 +72,7 @@ fn put_chart(
     turn: Option<Turn>,
     shown: u64,
     out: &mut Vec<u8>,
-) -> Result<(), OutOfMemory>
+) -> Result<(), AllocError>
     requires accepted { (ops : List Operator) × (o : Choices) × (text : List ℕ) × IsAccepted ops o text accepted.now }
     requires node { number < length accepted.now.placed.nodes }
 {
@@ -90,7 +89,7 @@ fn put_body(
     number: u32,
     instants: Option<u64>,
     out: &mut Vec<u8>,
-) -> Result<(), OutOfMemory>
+) -> Result<(), AllocError>
     requires accepted { (ops : List Operator) × (o : Choices) × (text : List ℕ) × IsAccepted ops o text accepted.now }
     requires node { number < length accepted.now.placed.nodes }
 {
@@ -108,7 +107,7 @@ fn body_of(
     accepted: &Accepted,
     number: u32,
     instants: Option<u64>,
-) -> Result<Vec<u8>, OutOfMemory>
+) -> Result<Vec<u8>, AllocError>
     requires accepted { (ops : List Operator) × (o : Choices) × (text : List ℕ) × IsAccepted ops o text accepted.now }
     requires node { number < length accepted.now.placed.nodes }
 {
@@ -138,7 +137,7 @@ pub(crate) fn put_node(
     number: u32,
     instants: Option<u64>,
     out: &mut Vec<u8>,
-) -> Result<(), OutOfMemory>
+) -> Result<(), AllocError>
     requires accepted { (ops : List Operator) × (o : Choices) × (text : List ℕ) × IsAccepted ops o text accepted.now }
     requires node { number < length accepted.now.placed.nodes }
     ensures { OnOk result (PutsNode number (slice_get accepted.now.placed.nodes number) out.old.items out.new.items) }

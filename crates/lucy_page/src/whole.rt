@@ -16,7 +16,6 @@ use crate::text::{program_marks, wrong_marks};
 use lucy_program::{Accepted, report};
 use lucy_svg::{STYLE, put, put_escaped};
 use lucy_tree::{Program, Span};
-use lucy_word::OutOfMemory;
 use std::alloc::{AllocError, Global};
 
 // Puts what stands before all else last. A page may fetch nothing and run nothing.
@@ -62,7 +61,7 @@ fn sections(
     program: &Program,
     accepted: &Accepted,
     instants: Option<u64>,
-) -> Result<Vec<u8>, OutOfMemory>
+) -> Result<Vec<u8>, AllocError>
     requires { (ops : List Operator) × (o : Choices) × (t : List ℕ) × IsAccepted ops o t accepted.now }
     ensures { IfOk result (λ v. AreSections 0 accepted.now.placed.nodes v.items) }
 {
@@ -80,7 +79,7 @@ fn put_texts(
     program: &Program,
     accepted: &Accepted,
     out: &mut Vec<u8>,
-) -> Result<(), OutOfMemory>
+) -> Result<(), AllocError>
     requires { (ops : List Operator) × (o : Choices) × (t : List ℕ) × IsAccepted ops o t accepted.now }
     ensures { OnOk result (PutsTexts text.now (report accepted.now.placed.nodes accepted.now.typed accepted.now.clocks.items) out.old.items out.new.items) }
 {
@@ -114,7 +113,7 @@ pub fn page(
     program: &Program,
     accepted: &Accepted,
     instants: Option<u64>,
-) -> Result<Vec<u8>, OutOfMemory>
+) -> Result<Vec<u8>, AllocError>
     requires { (ops : List Operator) × (o : Choices) × (t : List ℕ) × IsAccepted ops o t accepted.now }
     ensures { IfOk result (λ v. IsPage accepted.now.placed.nodes text.now (report accepted.now.placed.nodes accepted.now.typed accepted.now.clocks.items) v.items) }
 {

@@ -5,6 +5,7 @@ use Rattle.std.proofs.lemmas.Bool.{lt-leb}
 use Rattle.std.proofs.lemmas.List.{length-map}
 use Rattle.lucy_word.specs.Bits.{Bits}
 use Rattle.lucy_host.specs.Operators.{Operator}
+use Rattle.lucy_host.proofs.Elements.{get_right}
 use Rattle.lucy_tree.specs.declared.span.Name.{Name}
 use Rattle.lucy_tree.specs.declared.decl.Decl.{Decl}
 use Rattle.lucy_tree.specs.Tree.{Tree, Trees, literal, variable, operator, host, sampled, merged, followed, buffered, call, no_more, more}
@@ -13,11 +14,11 @@ use Rattle.lucy_place.specs.declared.entry.PlaceEntry.{PlaceEntry}
 use Rattle.lucy_place.specs.declared.entry.PlaceKind.TheVariants.{Param}
 use Rattle.lucy_naming.specs.Phrases.{Applied, Host, Sampled, Merged, Followed, Buffered, Called, phrase_of, phrases_of}
 use Rattle.lucy_naming.specs.Numbering.{Next, past, inside, entries, all_entries, number}
-use Rattle.lucy_naming.specs.Places.{Known, results_from, declared_entry, left_entries, known_in}
+use Rattle.lucy_naming.specs.Places.{Known, results_from, declared_entry, known_in}
 use Rattle.lucy_naming.specs.Nodes.{past_def, defined, rights, first_next, node_entries, placed_node}
 use Rattle.lucy_place.specs.Standing.{at_one}
 use Rattle.lucy_naming.specs.Streams.{streams, result_count, declared, def_names}
-use Rattle.lucy_kahn.proofs.JoinedLists.{get_right}
+use Rattle.lucy_naming.proofs.RoomLaws.{length_defined}
 use Rattle.lucy_picture.specs.Forms.{times, forms, all_forms, def_forms, form_at, IsOfForm}
 
 -- each place is that of its form, one after the other
@@ -87,19 +88,6 @@ matched_at (x ∷ es) [] i e h at = absurd h
 matched_at (x ∷ es) (t ∷ ts) zero e h at = let same : x ≡ e = cc at in (t, refl, subst (λ (y : PlaceEntry). IsOfForm t y.kind) same h.0)
 matched_at (x ∷ es) (t ∷ ts) (suc i) e h at = matched_at es ts i e h.1 at
 
--- the streams stand before
-left_count : (right : ℕ) (ds : List Decl) → length (left_entries right ds) ≡ length ds
-left_count right [] = refl
-left_count right (d ∷ ds) = ap suc (left_count (right + 1) ds)
-
-defined_count : (k : Known) (at : Next) (ds : List DefTree) → length (defined k at ds) ≡ length (def_names ds)
-defined_count k at [] = refl
-defined_count k at (d ∷ ds) =
-    let one = left_count (number k at (phrase_of d.right)) d.left in
-    let more = defined_count k (past_def at d) ds in
-    let names = length-map d.left (λ (x : Decl). x.name) in
-    omega (arith, length-append (left_entries (number k at (phrase_of d.right)) d.left) (defined k (past_def at d) ds), length-append (declared d.left) (def_names ds))
-
 -- the form of a number behind the streams stands so many places further on
 pub form_by : (n : NodeTree) (place skip : ℕ) (found : Option Tree) → skip + length (streams n) + 1 ≡ place → found ≡ slice_get (def_forms n.defs) skip → found ≡ form_at n place
 form_by n place skip found e is =
@@ -117,7 +105,7 @@ module _ (operators : List Operator) (above : ProgramTree) (n : NodeTree) where
       let k = known_in operators above n in
       let params = length-map n.params (declared_entry Param) in
       let names = length-map n.params (λ (x : Decl). x.name) in
-      let of_defs = defined_count k (first_next n) n.defs in
+      let of_defs = length_defined k (first_next n) n.defs in
       omega (arith, length-append (map (declared_entry Param) n.params) (defined k (first_next n) n.defs), length-append (declared n.params) (def_names n.defs))
 
   firsts : (i : ℕ) (entry : PlaceEntry) → slice_get (node_entries (known_in operators above n) n) i ≡ Some entry → slice_get (first ++ rights (known_in operators above n) (first_next n) n.defs) i ≡ Some entry

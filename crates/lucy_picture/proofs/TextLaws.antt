@@ -2,6 +2,7 @@
 use Rattle.std.proofs.Common.{ℕ, zero, suc, ◌+◌, ◌≡◌, ◌≤◌, List, [], ◌∷◌, ◌++◌, Some, drop, length, ap, sym, ◌∙◌, subst, append_assoc, append-nil, arith}
 use Rattle.std.proofs.lemmas.List.{at_drop_all}
 use Rattle.std.specs.Prelude.{slice_get, flat_map, Result, Ok, Err, OnOk}
+use Rattle.lucy_word.proofs.Lists.{four}
 use Rattle.lucy_picture.specs.Holding.{Extends}
 
 -- what follows from what is known where there was memory
@@ -39,19 +40,6 @@ element_more text xs i x old new whole at more before =
     let next : suc i ≡ i + 1 = omega arith in
     piece_more old new whole (text x) (flat_map text (drop (i + 1) xs)) more
     (subst (λ l. old ++ flat_map text l ≡ whole) (drop_suc xs i x at ∙ ap (λ n. x ∷ drop n xs) next) before)
-
--- four pieces
-pub four : (a b c d e p q r s : List ℕ) → b ≡ a ++ p → c ≡ b ++ q → d ≡ c ++ r → e ≡ d ++ s → e ≡ a ++ (p ++ (q ++ (r ++ s)))
-four a b c d e p q r s one two three last =
-    last ∙ ap (λ x. x ++ s) (three ∙ ap (λ x. x ++ r) (two ∙ ap (λ x. x ++ q) one))
-    ∙ append_assoc ((a ++ p) ++ q) r s ∙ append_assoc (a ++ p) q (r ++ s) ∙ append_assoc a p (q ++ (r ++ s))
-
--- six pieces
-pub six : (a b c d e f g p q r s t u : List ℕ) → b ≡ a ++ p → c ≡ b ++ q → d ≡ c ++ r → e ≡ d ++ s → f ≡ e ++ t → g ≡ f ++ u → g ≡ a ++ (p ++ (q ++ (r ++ (s ++ (t ++ u)))))
-six a b c d e f g p q r s t u one two three four five last =
-    last ∙ ap (λ x. x ++ u) (five ∙ ap (λ x. x ++ t) (four ∙ ap (λ x. x ++ s) (three ∙ ap (λ x. x ++ r) (two ∙ ap (λ x. x ++ q) one))))
-    ∙ append_assoc ((((a ++ p) ++ q) ++ r) ++ s) t u ∙ append_assoc (((a ++ p) ++ q) ++ r) s (t ++ u) ∙ append_assoc ((a ++ p) ++ q) r (s ++ (t ++ u))
-    ∙ append_assoc (a ++ p) q (r ++ (s ++ (t ++ u))) ∙ append_assoc a p (q ++ (r ++ (s ++ (t ++ u))))
 
 -- four pieces, the first of which is of five
 pub of_head : (a b c d e p q r s t u v w : List ℕ) → b ≡ a ++ (p ++ (q ++ (r ++ (s ++ t)))) → c ≡ b ++ u → d ≡ c ++ v → e ≡ d ++ w → e ≡ a ++ (p ++ (q ++ (r ++ (s ++ (t ++ (u ++ (v ++ w)))))))

@@ -8,14 +8,15 @@ use Rattle.lucy_word.specs.Bits.{Bits}
 use Rattle.lucy_word.specs.Limits.{limit_number}
 use Rattle.lucy_word.specs.Multiple.{IsLcm}
 use Rattle.lucy_word.specs.declared.limit.Limit.TheVariants as limit
+use Rattle.lucy_word.proofs.Lists.{all_join, all_weaker}
 use Rattle.lucy_place.specs.declared.entry.PlaceEntry.{PlaceEntry}
 use Rattle.lucy_place.specs.declared.entry.PlaceKind.TheVariants.{Buffer}
 use Rattle.lucy_place.specs.declared.placed.PlacedNode.{PlacedNode}
-use Rattle.lucy_place.specs.Proper.{IsProperNode, IsProperKind, Stands, IsPlace}
+use Rattle.lucy_place.specs.Proper.{IsProperNode, Stands}
 use Rattle.lucy_place.specs.Reads.{operands_of}
-use Rattle.lucy_types.proofs.ListLaws.{at_one_within}
 use Rattle.lucy_need.specs.Meeting.{assigned}
 use Rattle.lucy_clock.specs.Clocks.{clocks_of}
+use Rattle.lucy_clock.proofs.WithinLaws.{buffer_within}
 use Rattle.lucy_net.specs.Lengths.{AreLengths}
 use Rattle.lucy_net.proofs.LengthLaws.{lengths_more, lengths_too_long}
 use Rattle.lucy_program.specs.Report.{first_operand}
@@ -45,36 +46,20 @@ turn_too_long words clocks i clock prefix period m w h at is before common over 
     ∙ ap (λ v. map (assigned words) (take i clocks) ++ (v ∷ map (assigned words) (drop (i + 1) clocks))) (sym same) in
     lengths_too_long (map (assigned words) (take i clocks)) (map (assigned words) (drop (i + 1) clocks)) w prefix period m (limit_number limit.Schedule) P Q before common over (subst (λ ws. AreLengths ws P Q) parts whole)
 
-all_append : (P : ℕ → Type 0) (xs ys : List ℕ) → AllByRecursion P xs → AllByRecursion P ys → AllByRecursion P (xs ++ ys)
-all_append P [] ys h k = k
-all_append P (x ∷ xs) ys h k = (h.0, all_append P xs ys h.1 k)
-
-pub all_weaker : (P Q : ℕ → Type 0) (xs : List ℕ) → ((x : ℕ) → P x → Q x) → AllByRecursion P xs → AllByRecursion Q xs
-all_weaker P Q [] f h = tt
-all_weaker P Q (x ∷ xs) f h = (f x h.0, all_weaker P Q xs f h.1)
-
 -- a buffer and what it reads are places
 pub operand_is : (n : PlacedNode) (p k e : ℕ) → Stands n p (Buffer k e) → unwrap_or (first_operand n p) 0 ≡ e
 operand_is n p k e stands =
     ap (λ o. unwrap_or (option_and_then (λ (x : PlaceEntry). slice_get (operands_of x.kind) 0) o) 0) stands.1 ∙ ap (λ kind. unwrap_or (slice_get (operands_of kind) 0) 0) stands.2
 
-pub buffer_places : (above : List PlacedNode) (n : PlacedNode) (p k e : ℕ) → IsProperNode above n → Stands n p (Buffer k e) → (e < clocks_of n) × (p < clocks_of n)
-buffer_places above n p k e proper stands =
-    let own = at_one_within n.places p stands.0 stands.1 in
-    let kind = subst (λ x. IsProperKind n p x) stands.2 (proper.kinds p stands.0 stands.1) in
-    let read : IsPlace n e = kind.2 in
-    let low = own.1 in
-    let high = read.1 in (omega arith, omega arith)
-
 buffers_within : (above : List PlacedNode) (n : PlacedNode) → IsProperNode above n → (ps : List ℕ) → ((i p : ℕ) → slice_get ps i ≡ Some p → (k : ℕ) × (e : ℕ) × Stands n p (Buffer k e)) → AllByRecursion (λ c. c < clocks_of n) (buffer_clocks n ps)
 buffers_within above n proper [] h = tt
 buffers_within above n proper (p ∷ ps) h =
     let b = h 0 p refl in
-    let w = buffer_places above n p b.0 b.1 proper b.2 in
+    let w = buffer_within above n p b.0 b.1 proper b.2 in
     let read : unwrap_or (first_operand n p) 0 < clocks_of n = subst (λ e. e < clocks_of n) (sym (operand_is n p b.0 b.1 b.2)) w.0 in
     (read, (w.1, buffers_within above n proper ps (λ i q at. h (suc i) q at)))
 
 pub shown_within : (above : List PlacedNode) (n : PlacedNode) → IsProperNode above n → AllByRecursion (λ c. c < clocks_of n) (shown_clocks n)
 shown_within above n proper =
-    all_append (λ c. c < clocks_of n) (named_places n) (buffer_clocks n n.buffers) (all_weaker (λ q. q ≤ length n.places) (λ c. c < clocks_of n) (named_places n) (λ q h. omega arith) (places_within n))
+    all_join (λ c. c < clocks_of n) (named_places n) (buffer_clocks n n.buffers) (all_weaker (λ q. q ≤ length n.places) (λ c. c < clocks_of n) (named_places n) (λ q h. omega arith) (places_within n))
     (buffers_within above n proper n.buffers (λ i p at. let own = proper.buffers (suc i) p at in (suc i, own.0, own.1)))

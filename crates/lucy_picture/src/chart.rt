@@ -17,8 +17,7 @@ use crate::words::clocks_at;
 use lucy_clock::NodeClock;
 use lucy_place::PlacedNode;
 use lucy_program::Accepted;
-use lucy_word::OutOfMemory;
-use std::alloc::Global;
+use std::alloc::{AllocError, Global};
 
 /// A chronogram: the streams of a node, and its buffers, each in order, at the instants from 1 up to the same one.
 #[derive(Drop)]
@@ -33,7 +32,7 @@ fn drawn(
     node: &PlacedNode,
     clock: &NodeClock,
     shown: u64,
-) -> Result<Chart, OutOfMemory>
+) -> Result<Chart, AllocError>
     requires proper { (above : List Node) × IsProperNode above node.now }
     requires drawn { IsDrawn node.now clock.now }
     ensures rows { IfOk result (λ t. t.rows.items ≡ map (chart_row (assigned clock.now.words) shown) (named_places node.now)) }
@@ -51,7 +50,7 @@ pub fn chart_of(
     accepted: &Accepted,
     node: u32,
     shown: u64,
-) -> Result<Chart, OutOfMemory>
+) -> Result<Chart, AllocError>
     requires accepted { (ops : List Operator) × (o : Choices) × (text : List ℕ) × IsAccepted ops o text accepted.now }
     requires node { node < length accepted.now.placed.nodes }
     ensures rows { (n : Node) (c : Clock) → slice_get accepted.now.placed.nodes node ≡ Some n →

@@ -12,7 +12,7 @@ use crate::words::word_of;
 use lucy_clock::{NodeClock, Numbers64};
 use lucy_place::PlacedNode;
 use lucy_program::first_operand;
-use lucy_word::{OutOfMemory, Word};
+use lucy_word::Word;
 use std::alloc::{AllocError, Global};
 
 /// A buffer of a node: its number, the place that it reads and its own place, each from 1, and its size in items; the marks of what is
@@ -100,7 +100,7 @@ fn fill_at(
     clock: &NodeClock,
     number: usize,
     shown: u64,
-) -> Result<Fill, OutOfMemory>
+) -> Result<Fill, AllocError>
     requires proper { (above : List Node) × IsProperNode above node.now }
     requires drawn { IsDrawn node.now clock.now }
     requires number { number < length node.now.buffers }
@@ -133,7 +133,7 @@ pub(crate) fn fills(
     node: &PlacedNode,
     clock: &NodeClock,
     shown: u64,
-) -> Result<Vec<Fill>, OutOfMemory>
+) -> Result<Vec<Fill>, AllocError>
     requires proper { (above : List Node) × IsProperNode above node.now }
     requires drawn { IsDrawn node.now clock.now }
     ensures { IfOk result (λ v. AreFills node.now clock.now shown v.items) }

@@ -2,7 +2,7 @@
 ghost use Rattle.std.specs.Prelude.{◌≡◌, ◌∷◌, ◌++◌, [], IfOk, OnOk};
 ghost use Rattle.lucy_picture.specs.Charts.{marks_of};
 
-use lucy_word::{OutOfMemory, Word};
+use lucy_word::Word;
 use std::alloc::{AllocError, Global};
 use std::marker::Model;
 
@@ -41,7 +41,7 @@ fn bits(alloc: Global, word: &Word, shown: u64) -> Result<Vec<bool>, AllocError>
 
 impl Marks {
     /// The marks of a word at so many instants.
-    pub fn new(alloc: Global, word: &Word, shown: u64) -> Result<Marks, OutOfMemory>
+    pub fn new(alloc: Global, word: &Word, shown: u64) -> Result<Marks, AllocError>
         ensures { IfOk result (λ marks. marks ≡ marks_of word.now shown) }
     {
         let list = bits(alloc, word, shown)?;

@@ -5,7 +5,6 @@ ghost use Rattle.lucy_picture.specs.Charts.{if_named, named_places};
 
 use lucy_place::PlacedNode;
 use lucy_tree::Name;
-use lucy_word::OutOfMemory;
 use std::alloc::{AllocError, Global};
 
 /// One more place.
@@ -27,7 +26,7 @@ fn put_named(name: &Option<Name>, place: u32, places: &mut Vec<u32>) -> Result<(
 }
 
 /// The streams of a node: its places with names, in order.
-pub(crate) fn named_places(alloc: Global, node: &PlacedNode) -> Result<Vec<u32>, OutOfMemory>
+pub(crate) fn named_places(alloc: Global, node: &PlacedNode) -> Result<Vec<u32>, AllocError>
     requires { length node.now.places ≤ most_places }
     ensures { IfOk result (λ v. v.items ≡ named_places node.now) }
 {

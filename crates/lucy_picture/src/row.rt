@@ -6,7 +6,7 @@ ghost use Rattle.lucy_picture.specs.Charts.{chart_row};
 
 use crate::marks::Marks;
 use crate::words::word_of;
-use lucy_word::{OutOfMemory, Word};
+use lucy_word::Word;
 use std::alloc::{AllocError, Global};
 
 /// A stream of a node: its place, from 1, and its marks.
@@ -25,7 +25,7 @@ fn push(rows: &mut Vec<Row>, row: Row) -> Result<(), AllocError>
 }
 
 // The row of a place.
-fn row_at(alloc: Global, words: &[Word], place: u32, shown: u64) -> Result<Row, OutOfMemory>
+fn row_at(alloc: Global, words: &[Word], place: u32, shown: u64) -> Result<Row, AllocError>
     requires { place < length words.now }
     ensures { IfOk result (λ row. row ≡ chart_row (assigned words.now) shown place) }
 {
@@ -39,7 +39,7 @@ pub(crate) fn rows(
     words: &[Word],
     places: &[u32],
     shown: u64,
-) -> Result<Vec<Row>, OutOfMemory>
+) -> Result<Vec<Row>, AllocError>
     requires { AllByRecursion (λ p. p < length words.now) places.now }
     ensures { IfOk result (λ v. v.items ≡ map (chart_row (assigned words.now) shown) places.now) }
 {

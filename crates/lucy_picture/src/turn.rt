@@ -18,7 +18,7 @@ use crate::named::{named_places, push};
 use crate::words::{clocks_at, word_of};
 use lucy_place::PlacedNode;
 use lucy_program::{Accepted, first_operand};
-use lucy_word::{Limit, OutOfMemory, Word, lcm};
+use lucy_word::{Limit, Word, lcm};
 use std::alloc::{AllocError, Global};
 
 /// When streams come again together: behind so many instants of a prefix, after each period.
@@ -85,7 +85,7 @@ fn put_buffer(node: &PlacedNode, place: u32, clocks: &mut Vec<u32>) -> Result<()
 }
 
 // The clocks that are shown of a node.
-fn shown_clocks(alloc: Global, node: &PlacedNode) -> Result<Vec<u32>, OutOfMemory>
+fn shown_clocks(alloc: Global, node: &PlacedNode) -> Result<Vec<u32>, AllocError>
     requires { (above : List Node) × IsProperNode above node.now }
     ensures { IfOk result (λ v. v.items ≡ shown_clocks node.now) }
 {
@@ -99,7 +99,7 @@ fn shown_clocks(alloc: Global, node: &PlacedNode) -> Result<Vec<u32>, OutOfMemor
 /// When all streams that a chronogram shows of a node of an accepted program, by its number from 0, come again together: those of its
 /// named places, and those that its buffers are written and read on. None, where prefix and period together have more instants than
 /// `Limit::Schedule` allows.
-pub fn turn_of(alloc: Global, accepted: &Accepted, node: u32) -> Result<Option<Turn>, OutOfMemory>
+pub fn turn_of(alloc: Global, accepted: &Accepted, node: u32) -> Result<Option<Turn>, AllocError>
     requires accepted { (ops : List Operator) × (o : Choices) × (text : List ℕ) × IsAccepted ops o text accepted.now }
     requires node { node < length accepted.now.placed.nodes }
     ensures some { (n : Node) (c : Clock) → slice_get accepted.now.placed.nodes node ≡ Some n →

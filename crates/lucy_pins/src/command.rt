@@ -6,15 +6,14 @@ ghost use Rattle.lucy_command.specs.Named.{named, IsWithin, IsBlock};
 ghost use Rattle.lucy_command.specs.Named as parts;
 
 use lucy_command::Command;
-use lucy_word::OutOfMemory;
-use std::alloc::Global;
+use std::alloc::{AllocError, Global};
 
 /// Pins `lucy_command::read`.
 pub fn read<'a>(
     alloc: Global,
     words: &[String],
     spelled: &'a mut Vec<String>,
-) -> Result<Option<Command<'a>>, OutOfMemory>
+) -> Result<Option<Command<'a>>, AllocError>
     requires { spelled.old.items ≡ [] }
     ensures ok { IfOk result (λ command. option_map named command ≡ commands.command_of (map string_bytes words.now)) }
     ensures within { IfOk result (λ command. IfSome command (λ c. IsWithin (named c))) }

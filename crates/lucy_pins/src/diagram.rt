@@ -14,11 +14,10 @@ use lucy_diagram::Diagram;
 use lucy_place::Placed;
 use lucy_program::Accepted;
 use lucy_tree::Program;
-use lucy_word::OutOfMemory;
-use std::alloc::Global;
+use std::alloc::{AllocError, Global};
 
 /// Pins `lucy_diagram::diagram_of`.
-pub fn diagram_of(alloc: Global, accepted: &Accepted, node: u32) -> Result<Diagram, OutOfMemory>
+pub fn diagram_of(alloc: Global, accepted: &Accepted, node: u32) -> Result<Diagram, AllocError>
     requires accepted { (ops : List Operator) × (o : Choices) × (text : List ℕ) × IsAccepted ops o text accepted.now }
     requires node { node < length accepted.now.placed.nodes }
     ensures places { (n : Node) → slice_get accepted.now.placed.nodes node ≡ Some n → IfOk result (λ d. d.places.items ≡ drawn_places n) }
@@ -32,7 +31,7 @@ pub fn diagram_of(alloc: Global, accepted: &Accepted, node: u32) -> Result<Diagr
 }
 
 /// Pins `lucy_diagram::layers_of`.
-pub fn layers_of(alloc: Global, diagram: &Diagram) -> Result<Vec<usize>, OutOfMemory>
+pub fn layers_of(alloc: Global, diagram: &Diagram) -> Result<Vec<usize>, AllocError>
     ensures count { IfOk result (λ v. length v.items ≡ length diagram.now.places.items) }
     ensures layers { IfOk result (λ v. AreLayers diagram.now v.items) }
 {
@@ -54,7 +53,7 @@ pub fn put_text(
     node: u32,
     place: u32,
     out: &mut Vec<u8>,
-) -> Result<(), OutOfMemory>
+) -> Result<(), AllocError>
     requires { node < length placed.now.nodes }
     ensures { (n : Node) → slice_get placed.now.nodes node ≡ Some n →
         OnOk result (out.new.items ≡ out.old.items ++ spec.place_text (program_tree program.now) placed.now.nodes node n place) }

@@ -21,8 +21,8 @@ use lucy_need::Needs;
 use lucy_program::{Accepted, Options};
 use lucy_shape::Shape;
 use lucy_solve::Diffs;
-use lucy_word::{OutOfMemory, Word};
-use std::alloc::Global;
+use lucy_word::Word;
+use std::alloc::{AllocError, Global};
 
 /// Pins `lucy_explain::explain`.
 pub fn explain(
@@ -30,7 +30,7 @@ pub fn explain(
     text: &[u8],
     ops: &Ops,
     options: &Options,
-) -> Result<Explained, OutOfMemory>
+) -> Result<Explained, AllocError>
     requires { AreOptions options.now }
     ensures accepted { IfOk result (λ e. IfNone e.refusal ((a : Program) × IsAccepted ops.now options.now text.now a)) }
     ensures refused { IfOk result (λ e. IfSome e.refusal (λ r. Refuses ops.now options.now text.now r)) }
@@ -48,7 +48,7 @@ pub fn why(
     options: &Options,
     node: u32,
     buffer: u32,
-) -> Result<Option<Filling>, OutOfMemory>
+) -> Result<Option<Filling>, AllocError>
     requires options { AreOptions options.now }
     requires accepted { (ops : List Operator) × IsAccepted ops options.now text.now accepted.now }
     requires node { node < length accepted.now.placed.nodes }
@@ -65,7 +65,7 @@ pub fn chain_to(
     diffs: &Diffs,
     values: &[i64],
     variable: u32,
-) -> Result<Option<Vec<u32>>, OutOfMemory>
+) -> Result<Option<Vec<u32>>, AllocError>
     ensures { IfOk result (λ chain. IfSome chain (λ c. IsChain diffs.now.list 0 c.items variable (value values.now variable))) }
 {
     lucy_explain::chain_to(alloc, diffs, values, variable)
@@ -86,7 +86,7 @@ pub fn fold_evidence(
     shape: &Shape,
     diffs: &Diffs,
     cycle: &[u32],
-) -> Result<Folded, OutOfMemory>
+) -> Result<Folded, AllocError>
     requires clocks { length shape.now.clocks ≡ needs.now.clocks }
     requires variables { diffs.now.count ≡ variable_count shape.now.clocks }
     requires there { AreBelow (length diffs.now.list) cycle.now }
@@ -102,7 +102,7 @@ pub fn fold_chain(
     shape: &Shape,
     diffs: &Diffs,
     chain: &[u32],
-) -> Result<Folded, OutOfMemory>
+) -> Result<Folded, AllocError>
     requires clocks { length shape.now.clocks ≡ needs.now.clocks }
     requires variables { diffs.now.count ≡ variable_count shape.now.clocks }
     requires there { AreBelow (length diffs.now.list) chain.now }
@@ -118,7 +118,7 @@ pub fn reason_for(
     needs: &Needs,
     shape: &Shape,
     variable: u32,
-) -> Result<Option<Reason>, OutOfMemory>
+) -> Result<Option<Reason>, AllocError>
     requires { IsShapeFor needs.now shape.now }
     ensures variable { IfOk result (λ found. IfSome found (λ r. r.variable ≡ variable)) }
     ensures reason { IfOk result (λ found. IfSome found (IsReasonFor needs.now shape.now)) }
@@ -139,7 +139,7 @@ pub fn waits_of(
     write: &Word,
     read: &Word,
     items: u64,
-) -> Result<Vec<u64>, OutOfMemory>
+) -> Result<Vec<u64>, AllocError>
     ensures waits { IfOk result (λ v. AreWaits write.now read.now v.items) }
     ensures few { IfOk result (λ v. length v.items ≤ items) }
 {

@@ -8,15 +8,14 @@ ghost use Rattle.lucy_lines.specs.Resuming.{HasRead, AreFresh, AreMet, IsShort, 
 
 use lucy_lines::{Feed, FeedReader, InputSpec};
 use lucy_text::Source;
-use lucy_word::OutOfMemory;
-use std::alloc::Global;
+use std::alloc::{AllocError, Global};
 
 /// Pins `lucy_lines::read_feed`.
 pub fn read_feed<I: Source>(
     alloc: Global,
     inputs: Vec<InputSpec>,
     source: &mut I,
-) -> Result<Feed, OutOfMemory>
+) -> Result<Feed, AllocError>
     requires { length inputs.items < 2 ^ 32 }
     ensures fed { (taken : List ℕ) × (stop : ReadStop) × Read most_bytes (I.seen source.old) (I.seen source.new)
         taken stop × IsAsked inputs.items taken × IsFeed inputs.items taken stop result }
@@ -27,7 +26,7 @@ pub fn read_feed<I: Source>(
 }
 
 /// Pins `lucy_lines::FeedReader::new`.
-pub fn reader(alloc: Global, inputs: Vec<InputSpec>) -> Result<FeedReader, OutOfMemory>
+pub fn reader(alloc: Global, inputs: Vec<InputSpec>) -> Result<FeedReader, AllocError>
     requires { length inputs.items < 2 ^ 32 }
     ensures begun { IfOk result (λ r. (source : SeenSource) → HasRead inputs.items source source r [] []) }
     ensures fresh { IfOk result (λ r. AreFresh inputs.items r []) }
@@ -42,7 +41,7 @@ pub fn read_to<I: Source>(
     alloc: Global,
     wanted: &[u64],
     source: &mut I,
-) -> Result<(), OutOfMemory>
+) -> Result<(), AllocError>
     requires { length wanted.now ≡ length reader.old.reader.inputs }
     ensures reads { OnOk result (ReadsWhile (IsShort wanted.now) (I.seen source.old) (I.seen source.new) reader.old reader.new) }
     ensures gives_up { OnErr result (GivesUp (I.seen source.old) (I.seen source.new) reader.old) }
@@ -60,7 +59,7 @@ pub fn read_on<I: Source>(
     reader: &mut FeedReader,
     alloc: Global,
     source: &mut I,
-) -> Result<(), OutOfMemory>
+) -> Result<(), AllocError>
     ensures reads { OnOk result (ReadsMore (I.seen source.old) (I.seen source.new) reader.old reader.new) }
     ensures gives_up { OnErr result (GivesUp (I.seen source.old) (I.seen source.new) reader.old) }
     ensures stopped { OnOk result (reader.new.reader.ended ≡ true) }
@@ -86,7 +85,7 @@ pub fn pass_rest<I: Source>(reader: &mut FeedReader, source: &mut I)
 }
 
 /// Pins `lucy_lines::FeedReader::carry_away`.
-pub fn carry_away(reader: &mut FeedReader, alloc: Global) -> Result<(), OutOfMemory>
+pub fn carry_away(reader: &mut FeedReader, alloc: Global) -> Result<(), AllocError>
     ensures ok { IfOk result (λ _. reader.new ≡ record reader.old { fresh = values_by_stream (length reader.old.reader.inputs) [] }) }
     ensures refused { OnErr result (reader.new ≡ reader.old) }
 {

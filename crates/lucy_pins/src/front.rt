@@ -19,8 +19,7 @@ use lucy_host::Ops;
 use lucy_program::{Accepted, Options};
 use lucy_shape::Shape;
 use lucy_solve::Diffs;
-use lucy_word::OutOfMemory;
-use std::alloc::Global;
+use std::alloc::{AllocError, Global};
 
 /// Pins `lucy_front::accept`.
 pub fn accept(alloc: Global, text: &[u8], ops: &Ops, options: &Options) -> Result<Accepted, Refusal>
@@ -42,7 +41,7 @@ pub fn cycle_text(
     shape: &Shape,
     diffs: &Diffs,
     cycle: &[u32],
-) -> Result<Vec<u8>, OutOfMemory>
+) -> Result<Vec<u8>, AllocError>
     requires node { node < length accepted.now.placed.nodes }
     requires clocks { (n : Node) → slice_get accepted.now.placed.nodes node ≡ Some n → length shape.now.clocks ≡ clocks_of n }
     requires variables { diffs.now.count ≡ variable_count shape.now.clocks }
@@ -54,7 +53,7 @@ pub fn cycle_text(
 }
 
 /// Pins `lucy_front::refusal_text`.
-pub fn refusal_text(alloc: Global, refusal: &Refusal) -> Result<Vec<u8>, OutOfMemory>
+pub fn refusal_text(alloc: Global, refusal: &Refusal) -> Result<Vec<u8>, AllocError>
     requires { refusals.IsTellable refusal.now }
     ensures { IfOk result (λ v. v.items ≡ refusals.refusal_text refusal.now) }
 {

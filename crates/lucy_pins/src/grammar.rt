@@ -9,11 +9,10 @@ ghost use Rattle.lucy_grammar.specs.Texts.{HasTree};
 ghost use Rattle.lucy_grammar.specs.Laws.{PrintedAgain, ReadAgain, TextsHaveOneAnswer};
 
 use lucy_tree::Program;
-use lucy_word::OutOfMemory;
-use std::alloc::Global;
+use std::alloc::{AllocError, Global};
 
 /// Pins `lucy_grammar::print`.
-pub fn print(alloc: Global, program: &Program) -> Result<Vec<u8>, OutOfMemory>
+pub fn print(alloc: Global, program: &Program) -> Result<Vec<u8>, AllocError>
     ensures text { IfOk result (λ text. text.items ≡ program_text (program_tree program.now)) }
     ensures again { (from : List ℕ) → HasTree from (program_tree program.now) → IfOk result (λ text. length text.items ≤ limit_number limit.Text →
         (q : ProgramTree) × HasTree text.items q × IsAlike q (program_tree program.now)) }

@@ -13,7 +13,6 @@ ghost use Rattle.lucy_graphviz.specs.Quotes.{quoted, in_label, read_quoted};
 
 use lucy_program::Accepted;
 use lucy_tree::Program;
-use lucy_word::OutOfMemory;
 use std::alloc::{AllocError, Global};
 
 /// Pins `lucy_graphviz::put_net`.
@@ -24,7 +23,7 @@ pub fn put_net(
     node: Option<u32>,
     flat: bool,
     out: &mut Vec<u8>,
-) -> Result<(), OutOfMemory>
+) -> Result<(), AllocError>
     requires accepted { (ops : List Operator) × (o : Choices) × (text : List ℕ) × IsAccepted ops o text accepted.now }
     requires node { IfSome node (λ n. n < length accepted.now.placed.nodes) }
     ensures node { (n : Node) → flat ≡ false → slice_get accepted.now.placed.nodes (unwrap_or node (length accepted.now.placed.nodes - 1)) ≡ Some n →

@@ -10,11 +10,10 @@ ghost use Rattle.lucy_lines.specs.CutLaws.{OneCut, JudgedFirst};
 use lucy_host::DataType;
 use lucy_lines::{InputReader, InputSpec, Line, TextFault, ValueLines};
 use lucy_text::Source;
-use lucy_word::OutOfMemory;
-use std::alloc::Global;
+use std::alloc::{AllocError, Global};
 
 /// Pins `lucy_lines::InputReader::new`.
-pub fn reader(alloc: Global, inputs: Vec<InputSpec>) -> Result<InputReader, OutOfMemory>
+pub fn reader(alloc: Global, inputs: Vec<InputSpec>) -> Result<InputReader, AllocError>
     requires { length inputs.items < 2 ^ 32 }
     ensures { IfOk result (λ r. r ≡ new_reader inputs.items) }
 {
@@ -47,7 +46,7 @@ pub fn value_line(
     name: &[u8],
     holds: DataType,
     value: i64,
-) -> Result<Vec<u8>, OutOfMemory>
+) -> Result<Vec<u8>, AllocError>
     ensures { IfOk result (λ line. line.items ≡ line_of name.now holds value) }
 {
     lucy_lines::value_line(alloc, name, holds, value)

@@ -12,13 +12,12 @@ ghost use Rattle.lucy_make.specs.Laws.{EndsAsRun};
 use lucy_host::Host;
 use lucy_program::Accepted;
 use lucy_run::Ending;
-use lucy_word::OutOfMemory;
 use lucy_worker::Gate;
-use std::alloc::Global;
+use std::alloc::{AllocError, Global};
 use std::thread::Threads;
 
 /// Pins `lucy_make::made_text`.
-pub fn made_text(alloc: Global, stages: u64) -> Result<Vec<u8>, OutOfMemory>
+pub fn made_text(alloc: Global, stages: u64) -> Result<Vec<u8>, AllocError>
     requires { (1 ≤ stages) × (stages ≤ 256) }
     ensures { IfOk result (λ v. v.items ≡ spec.made_text stages) }
 {

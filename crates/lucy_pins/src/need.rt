@@ -8,11 +8,11 @@ ghost use Rattle.lucy_need.specs.Stored.{HasWords};
 ghost use Rattle.lucy_need.specs.Laws.{BitsLaw, EqualLaw, SampledLaw, AdaptLaw};
 
 use lucy_need::{Need, NeedList, Needs, Term};
-use lucy_word::{OutOfMemory, Word};
-use std::alloc::Global;
+use lucy_word::Word;
+use std::alloc::{AllocError, Global};
 
 /// Pins `lucy_need::always`.
-pub fn always(alloc: Global) -> Result<Word, OutOfMemory>
+pub fn always(alloc: Global) -> Result<Word, AllocError>
     ensures is { IfOk result (λ w. w ≡ always) }
     ensures stored { IfOk result IsStored }
 {

@@ -8,7 +8,6 @@ ghost use Rattle.lucy_page.specs.Pages.{IsPage, IsRefusedPage};
 
 use lucy_program::Accepted;
 use lucy_tree::{Program, Span};
-use lucy_word::OutOfMemory;
 use std::alloc::{AllocError, Global};
 
 /// Pins `lucy_page::page`.
@@ -19,7 +18,7 @@ pub fn page(
     program: &Program,
     accepted: &Accepted,
     instants: Option<u64>,
-) -> Result<Vec<u8>, OutOfMemory>
+) -> Result<Vec<u8>, AllocError>
     requires { (ops : List Operator) × (o : Choices) × (t : List ℕ) × IsAccepted ops o t accepted.now }
     ensures { IfOk result (λ v. IsPage accepted.now.placed.nodes text.now (report accepted.now.placed.nodes accepted.now.typed accepted.now.clocks.items) v.items) }
 {

@@ -29,7 +29,7 @@ use lucy_picture::{Chart, Spot, Turn};
 use lucy_place::{PlaceEntry, PlaceKind, PlacedNode};
 use lucy_program::Accepted;
 use lucy_tree::{Expr, Node, Span};
-use lucy_word::{OutOfMemory, Word};
+use lucy_word::Word;
 use std::alloc::{AllocError, Global};
 
 /// Pins `lucy_picture::chart_of`.
@@ -38,7 +38,7 @@ pub fn chart_of(
     accepted: &Accepted,
     node: u32,
     shown: u64,
-) -> Result<Chart, OutOfMemory>
+) -> Result<Chart, AllocError>
     requires accepted { (ops : List Operator) × (o : Choices) × (text : List ℕ) × IsAccepted ops o text accepted.now }
     requires node { node < length accepted.now.placed.nodes }
     ensures rows { (n : PlacedNode) (c : Clock) → slice_get accepted.now.placed.nodes node ≡ Some n →
@@ -50,7 +50,7 @@ pub fn chart_of(
 }
 
 /// Pins `lucy_picture::turn_of`.
-pub fn turn_of(alloc: Global, accepted: &Accepted, node: u32) -> Result<Option<Turn>, OutOfMemory>
+pub fn turn_of(alloc: Global, accepted: &Accepted, node: u32) -> Result<Option<Turn>, AllocError>
     requires accepted { (ops : List Operator) × (o : Choices) × (text : List ℕ) × IsAccepted ops o text accepted.now }
     requires node { node < length accepted.now.placed.nodes }
     ensures some { (n : PlacedNode) (c : Clock) → slice_get accepted.now.placed.nodes node ≡ Some n →
@@ -116,7 +116,7 @@ pub fn put_kind(
     kind: &PlaceKind,
     form: Option<&Expr>,
     out: &mut Vec<u8>,
-) -> Result<(), OutOfMemory>
+) -> Result<(), AllocError>
     ensures { OnOk result (out.new.items ≡ out.old.items ++ kinds.kind_text node.now kind.now (option_map (λ e. tree_of e.now) form.entry)) }
 {
     lucy_picture::put_kind(alloc, node, kind, form, out)
@@ -130,7 +130,7 @@ pub fn put_entry(
     entry: &PlaceEntry,
     form: Option<&Expr>,
     out: &mut Vec<u8>,
-) -> Result<(), OutOfMemory>
+) -> Result<(), AllocError>
     ensures { OnOk result (out.new.items ≡ out.old.items ++ kinds.entry_text node.now place entry.now (option_map (λ e. tree_of e.now) form.entry)) }
 {
     lucy_picture::put_entry(alloc, node, place, entry, form, out)
@@ -155,7 +155,7 @@ pub fn put_word(
     words: &[Word],
     place: u32,
     out: &mut Vec<u8>,
-) -> Result<(), OutOfMemory>
+) -> Result<(), AllocError>
     ensures { OnOk result (out.new.items ≡ out.old.items ++ lines.word_text words.now place) }
 {
     lucy_picture::put_word(alloc, words, place, out)
@@ -170,7 +170,7 @@ pub fn put_time(
     shown: u64,
     chart: &Chart,
     out: &mut Vec<u8>,
-) -> Result<(), OutOfMemory>
+) -> Result<(), AllocError>
     requires { node < length accepted.now.placed.nodes }
     ensures { (n : PlacedNode) → slice_get accepted.now.placed.nodes node ≡ Some n →
         OnOk result (lines.PutsChart n (words_in (slice_get accepted.now.clocks.items node)) turn shown chart.now out.old.items out.new.items) }

@@ -18,11 +18,10 @@ use lucy_place::PlacedNode;
 use lucy_program::Accepted;
 use lucy_text::Text;
 use lucy_types::Ty;
-use lucy_word::OutOfMemory;
-use std::alloc::Global;
+use std::alloc::{AllocError, Global};
 
 /// Pins `lucy_program::node_line`.
-pub fn node_line(alloc: Global, node: &PlacedNode, out: &mut Vec<u8>) -> Result<(), OutOfMemory>
+pub fn node_line(alloc: Global, node: &PlacedNode, out: &mut Vec<u8>) -> Result<(), AllocError>
     requires { node.now.params ≤ most_places }
     ensures { OnOk result (out.new.items ≡ out.old.items ++ naming.node_line node.now) }
 {
@@ -30,7 +29,7 @@ pub fn node_line(alloc: Global, node: &PlacedNode, out: &mut Vec<u8>) -> Result<
 }
 
 /// Pins `lucy_program::type_name`.
-pub fn type_name(alloc: Global, main: bool, ty: Ty, out: &mut Vec<u8>) -> Result<(), OutOfMemory>
+pub fn type_name(alloc: Global, main: bool, ty: Ty, out: &mut Vec<u8>) -> Result<(), AllocError>
     ensures { OnOk result (out.new.items ≡ out.old.items ++ printed.type_name main ty) }
 {
     lucy_program::type_name(alloc, main, ty, out)
@@ -44,7 +43,7 @@ pub fn first_operand(node: &PlacedNode, place: u32) -> Option<u32>
 }
 
 /// Pins `lucy_program::report`.
-pub fn report(alloc: Global, accepted: &Accepted) -> Result<Vec<u8>, OutOfMemory>
+pub fn report(alloc: Global, accepted: &Accepted) -> Result<Vec<u8>, AllocError>
     requires { (ops : List Operator) × (text : List ℕ) × (options : Choices) × IsAccepted ops options text accepted.now }
     ensures { IfOk result (λ v. v.items ≡ printed.report accepted.now.placed.nodes accepted.now.typed accepted.now.clocks.items) }
 {
@@ -57,7 +56,7 @@ pub fn report_node(
     accepted: &Accepted,
     node: u32,
     clocks: &NodeClock,
-) -> Result<Vec<u8>, OutOfMemory>
+) -> Result<Vec<u8>, AllocError>
     requires node { node < length accepted.now.placed.nodes }
     requires typed { IsTyped accepted.now.placed.nodes accepted.now.typed }
     requires sizes { (n : Node) → slice_get accepted.now.placed.nodes node ≡ Some n → length clocks.now.sizes ≡ length n.buffers }
@@ -80,21 +79,21 @@ pub fn accepted_programs_are_clocked()
 }
 
 /// Pins `lucy_program::bytes`.
-pub fn bytes(bytes: &[u8], out: &mut Vec<u8>) -> Result<(), OutOfMemory>
+pub fn bytes(bytes: &[u8], out: &mut Vec<u8>) -> Result<(), AllocError>
     ensures { OnOk result (out.new.items ≡ out.old.items ++ bytes.now) }
 {
     lucy_program::bytes(bytes, out)
 }
 
 /// Pins `lucy_program::number`.
-pub fn number(alloc: Global, number: u64, out: &mut Vec<u8>) -> Result<(), OutOfMemory>
+pub fn number(alloc: Global, number: u64, out: &mut Vec<u8>) -> Result<(), AllocError>
     ensures { OnOk result (out.new.items ≡ out.old.items ++ decimal number) }
 {
     lucy_program::number(alloc, number, out)
 }
 
 /// Pins `lucy_program::place_name`.
-pub fn place_name(alloc: Global, node: &PlacedNode, place: u32) -> Result<Text, OutOfMemory>
+pub fn place_name(alloc: Global, node: &PlacedNode, place: u32) -> Result<Text, AllocError>
     ensures { IfOk result (λ text. text ≡ naming.place_name node.now place) }
 {
     lucy_program::place_name(alloc, node, place)
@@ -105,14 +104,14 @@ pub fn place_names(
     alloc: Global,
     node: &PlacedNode,
     places: &[u32],
-) -> Result<Vec<Text>, OutOfMemory>
+) -> Result<Vec<Text>, AllocError>
     ensures { IfOk result (λ v. v.items ≡ naming.place_names node.now places.now) }
 {
     lucy_program::place_names(alloc, node, places)
 }
 
 /// Pins `lucy_program::param_places`.
-pub fn param_places(alloc: Global, params: u32) -> Result<Vec<u32>, OutOfMemory>
+pub fn param_places(alloc: Global, params: u32) -> Result<Vec<u32>, AllocError>
     requires { params ≤ most_places }
     ensures { IfOk result (λ v. v.items ≡ range_with_len 1 params) }
 {

@@ -5,11 +5,11 @@ ghost use Rattle.lucy_word.specs.declared.limit.Limit.TheVariants as limit;
 ghost use Rattle.lucy_ring.specs.Views.{most_between};
 ghost use mathlib.Core.List.{IsPrefix};
 
-use lucy_ring::{Giver, OutOfMemory, Taker};
-use std::alloc::Global;
+use lucy_ring::{Giver, Taker};
+use std::alloc::{AllocError, Global};
 
 /// Pins `lucy_ring::ring`.
-pub fn ring(alloc: Global, capacity: u32) -> Result<(Giver, Taker), OutOfMemory>
+pub fn ring(alloc: Global, capacity: u32) -> Result<(Giver, Taker), AllocError>
     requires within { (1 ≤ capacity) × (capacity ≤ limit_number limit.Slots) }
     ensures ends { IfOk result (λ r. r.0.ring ≡ r.1.ring) }
     ensures slots { IfOk result (λ r. (r.0.ring.capacity ≡ capacity) × (r.0.ring.numbers_capacity ≡ capacity)) }

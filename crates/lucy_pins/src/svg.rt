@@ -21,7 +21,7 @@ use lucy_picture::Turn;
 use lucy_place::PlacedNode;
 use lucy_program::Accepted;
 use lucy_svg::{Drawing, Font, Sheet, Told};
-use lucy_word::{OutOfMemory, Word};
+use lucy_word::Word;
 use std::alloc::{AllocError, Global};
 
 /// Pins `lucy_svg::drawing_of`.
@@ -30,7 +30,7 @@ pub fn drawing_of(
     accepted: &Accepted,
     node: u32,
     shown: u64,
-) -> Result<Drawing, OutOfMemory>
+) -> Result<Drawing, AllocError>
     requires accepted { (ops : List Operator) × (o : Choices) × (text : List ℕ) × IsAccepted ops o text accepted.now }
     requires node { node < length accepted.now.placed.nodes }
     ensures rows { (n : Node) (c : Clock) → slice_get accepted.now.placed.nodes node ≡ Some n →
@@ -90,7 +90,7 @@ pub fn put_label(
 }
 
 /// Pins `lucy_svg::word_text`.
-pub fn word_text(alloc: Global, words: &[Word], place: u32) -> Result<Vec<u8>, OutOfMemory>
+pub fn word_text(alloc: Global, words: &[Word], place: u32) -> Result<Vec<u8>, AllocError>
     ensures { IfOk result (λ v. v.items ≡ word_text words.now place) }
 {
     lucy_svg::word_text(alloc, words, place)
@@ -126,7 +126,7 @@ pub fn put_time_svg(
     shown: u64,
     drawing: &Drawing,
     out: &mut Vec<u8>,
-) -> Result<(), OutOfMemory>
+) -> Result<(), AllocError>
     requires { node < length accepted.now.placed.nodes }
     ensures { (n : Node) → slice_get accepted.now.placed.nodes node ≡ Some n → OnOk result (PutsPicture n drawing.now out.old.items out.new.items) }
 {
@@ -142,7 +142,7 @@ pub fn sheet<'a>(
     turn: Option<Turn>,
     shown: u64,
     drawing: &'a Drawing,
-) -> Result<Sheet<'a>, OutOfMemory>
+) -> Result<Sheet<'a>, AllocError>
     ensures node { IfOk result (λ s. s.side.node.now ≡ node.now) }
     ensures told { IfOk result (λ s. AreTold node.now s.side.told) }
     ensures drawing { IfOk result (λ s. s.drawing.now ≡ drawing.now) }
@@ -152,14 +152,14 @@ pub fn sheet<'a>(
 }
 
 /// Pins `lucy_svg::Sheet::put_names`.
-pub fn put_names<'a>(sheet: &Sheet<'a>, alloc: Global, out: &mut Vec<u8>) -> Result<(), OutOfMemory>
+pub fn put_names<'a>(sheet: &Sheet<'a>, alloc: Global, out: &mut Vec<u8>) -> Result<(), AllocError>
     ensures { OnOk result (Puts (IsLaneName sheet.now.side.node.now sheet.now.side.told) (names_of sheet.now.drawing.now) out.old.items out.new.items) }
 {
     sheet.put_names(alloc, out)
 }
 
 /// Pins `lucy_svg::Sheet::put_lanes`.
-pub fn put_lanes<'a>(sheet: &Sheet<'a>, alloc: Global, out: &mut Vec<u8>) -> Result<(), OutOfMemory>
+pub fn put_lanes<'a>(sheet: &Sheet<'a>, alloc: Global, out: &mut Vec<u8>) -> Result<(), AllocError>
     ensures { OnOk result (Puts (IsLane sheet.now.lanes.cell) (lanes_of sheet.now.drawing.now) out.old.items out.new.items) }
 {
     sheet.put_lanes(alloc, out)

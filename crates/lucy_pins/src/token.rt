@@ -5,17 +5,17 @@ ghost use Rattle.lucy_token.specs.Cuts.{Cuts};
 ghost use Rattle.lucy_token.specs.Written.{IsNameText, is_name_text};
 ghost use Rattle.lucy_token.specs.Marks as marks;
 ghost use Rattle.lucy_token.specs.Tokens as kinds;
-ghost use Rattle.lucy_token.specs.Laws.{TextsHaveOneCut};
+ghost use Rattle.lucy_token.specs.Laws.{TextsHaveOneCut, OldTextsMeanTheSame};
 ghost use Rattle.lucy_token.specs.Fronts.{IsWordFront};
 ghost use Rattle.lucy_token.specs.Scans.{word_front};
 
 use lucy_host::Op;
 use lucy_token::{Kind, Mark, Tokens, What};
-use lucy_word::{Limit, OutOfMemory};
-use std::alloc::Global;
+use lucy_word::Limit;
+use std::alloc::{AllocError, Global};
 
 /// Pins `lucy_token::tokens`.
-pub fn tokens<'a>(alloc: Global, text: &'a [u8]) -> Result<Tokens<'a>, OutOfMemory>
+pub fn tokens<'a>(alloc: Global, text: &'a [u8]) -> Result<Tokens<'a>, AllocError>
     requires { length text.now ≤ limit_number Limit.Text }
     ensures { IfOk result (λ t. Cuts 0 [] text.now t.list.items t.stop) }
 {
@@ -70,4 +70,11 @@ pub fn words_end_with_their_form()
     ensures { (text : List ℕ) → IsWordFront text (word_front text) }
 {
     lucy_token::words_end_with_their_form();
+}
+
+/// Pins `lucy_token::old_texts_mean_the_same`.
+pub fn old_texts_mean_the_same()
+    ensures { OldTextsMeanTheSame }
+{
+    lucy_token::old_texts_mean_the_same();
 }

@@ -2,7 +2,7 @@
 use Rattle.std.proofs.Common.{ℕ, zero, suc, List, subst, arith}
 use Rattle.std.proofs.lemmas.Option.{slice_get_within}
 use Rattle.lucy_host.specs.Operators.{Operator}
-use Rattle.lucy_types.proofs.ListLaws.{get_there}
+use Rattle.lucy_host.proofs.Elements.{get_there}
 use Rattle.lucy_need.specs.Meeting.{assigned}
 use Rattle.lucy_clock.specs.WellClocked.{KeepsBound}
 use Rattle.lucy_clock.proofs.BoundLaws.{size_bounded}

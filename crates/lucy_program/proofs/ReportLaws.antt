@@ -5,6 +5,7 @@ use Rattle.std.specs.List.{AllByRecursion}
 use Rattle.std.proofs.lemmas.List.{drop_more}
 use Rattle.std.proofs.lemmas.Bool.{ne_eqb}
 use Rattle.std.proofs.lemmas.Option.{slice_get_within, get_or_from_slice_get, slice_get-get_or}
+use Rattle.lucy_word.proofs.Lists.{drop_next, four}
 use Rattle.lucy_place.specs.declared.entry.PlaceEntry.{PlaceEntry}
 use Rattle.lucy_place.specs.declared.entry.CallSite.{CallSite}
 use Rattle.lucy_place.specs.declared.placed.PlacedNode.{PlacedNode}
@@ -20,9 +21,6 @@ use Rattle.lucy_program.specs.Report.{name_line, name_lines, buffer_line, buffer
 -- what is left of a list from an entry on
 pub drop_at : {A : Type 0} (xs : List A) (i : ℕ) (x : A) → slice_get xs i ≡ Some x → drop i xs ≡ x ∷ drop (i + 1) xs
 drop_at xs i x is = drop_more xs i x (slice_get_within xs i x is) ∙ ap (λ y. y ∷ drop (i + 1) xs) (get_or_from_slice_get xs i x x is)
-
-pub drop_read : {A : Type 0} (xs : List A) (i : ℕ) (x : A) → i < length xs → x ≡ get_or xs i x → drop i xs ≡ x ∷ drop (i + 1) xs
-drop_read xs i x h is = drop_more xs i x h ∙ ap (λ y. y ∷ drop (i + 1) xs) (sym is)
 
 -- the types of a node are its table
 pub table_found : (tables : List (List Ty)) (i : ℕ) → i < length tables → slice_get tables i ≡ Some (table_at tables i)
@@ -40,7 +38,7 @@ pub names_more : (main : Bool) (said : ℕ → List ℕ) (es : List PlaceEntry) 
     b ≡ a ++ name_line main e.name t (said (i + 1)) → a ++ name_lines main said (1 + i) (drop i es) (drop i ts) ≡ all → b ++ name_lines main said (1 + (i + 1)) (drop (i + 1) es) (drop (i + 1) ts) ≡ all
 names_more main said es ts i e t a b all h is typed more before =
     let rest : List ℕ = name_lines main said (1 + (i + 1)) (drop (i + 1) es) (drop (i + 1) ts) in
-    let here : drop i es ≡ e ∷ drop (i + 1) es = drop_read es i e h is in
+    let here : drop i es ≡ e ∷ drop (i + 1) es = drop_next es i e h is in
     let P : ℕ → Type 0 = λ n. at_one ts n ≡ Some t in
     let there : drop i ts ≡ t ∷ drop (i + 1) ts = drop_at ts i t (subst P (add-one i) typed) in
     let z : 1 + i ≡ i + 1 = omega arith in
@@ -55,8 +53,8 @@ pub buffers_more : (n : PlacedNode) (w : Assignment) (ps ss : List ℕ) (i p s :
     b ≡ a ++ buffer_line n w (i + 1) p s → a ++ buffer_lines n w (1 + i) (drop i ps) (drop i ss) ≡ all → b ++ buffer_lines n w (1 + (i + 1)) (drop (i + 1) ps) (drop (i + 1) ss) ≡ all
 buffers_more n w ps ss i p s a b all h is k of more before =
     let rest : List ℕ = buffer_lines n w (1 + (i + 1)) (drop (i + 1) ps) (drop (i + 1) ss) in
-    let here : drop i ps ≡ p ∷ drop (i + 1) ps = drop_read ps i p h is in
-    let there : drop i ss ≡ s ∷ drop (i + 1) ss = drop_read ss i s k of in
+    let here : drop i ps ≡ p ∷ drop (i + 1) ps = drop_next ps i p h is in
+    let there : drop i ss ≡ s ∷ drop (i + 1) ss = drop_next ss i s k of in
     let z : 1 + i ≡ i + 1 = omega arith in
     let step : buffer_lines n w (1 + i) (drop i ps) (drop i ss) ≡ buffer_line n w (i + 1) p s ++ rest =
     ap (λ l. buffer_lines n w (1 + i) l (drop i ss)) here ∙ ap (λ l. buffer_lines n w (1 + i) (p ∷ drop (i + 1) ps) l) there
@@ -69,7 +67,7 @@ pub calls_more : (nodes : List PlacedNode) (n : PlacedNode) (w : Assignment) (si
     b ≡ a ++ call_line nodes (i + 1) site (w clock) → a ++ call_lines nodes n w (1 + i) (drop i sites) ≡ all → b ++ call_lines nodes n w (1 + (i + 1)) (drop (i + 1) sites) ≡ all
 calls_more nodes n w sites i clock site a b all h is at more before =
     let rest : List ℕ = call_lines nodes n w (1 + (i + 1)) (drop (i + 1) sites) in
-    let here : drop i sites ≡ site ∷ drop (i + 1) sites = drop_read sites i site h is in
+    let here : drop i sites ≡ site ∷ drop (i + 1) sites = drop_next sites i site h is in
     let z : 1 + i ≡ i + 1 = omega arith in
     let step : call_lines nodes n w (1 + i) (drop i sites) ≡ call_line nodes (i + 1) site (w clock) ++ rest =
     ap (call_lines nodes n w (1 + i)) here
@@ -95,7 +93,7 @@ report_more all_nodes nodes tables clocks i count n c a b all at same l is count
     let rest : List ℕ = node_reports all_nodes (drop (i + 1) nodes) (drop (i + 1) tables) (drop (i + 1) clocks) in
     let here : drop i nodes ≡ n ∷ drop (i + 1) nodes = drop_at nodes i n at in
     let there : drop i tables ≡ ts ∷ drop (i + 1) tables = drop_at tables i ts (table_found tables i k) in
-    let of : drop i clocks ≡ c ∷ drop (i + 1) clocks = drop_read clocks i c l is in
+    let of : drop i clocks ≡ c ∷ drop (i + 1) clocks = drop_next clocks i c l is in
     let main : Bool = nat_eq (length (drop (i + 1) nodes)) 0 in
     let step : node_reports all_nodes (drop i nodes) (drop i tables) (drop i clocks) ≡ node_lines all_nodes main n ts c ++ rest =
     ap (λ xs. node_reports all_nodes xs (drop i tables) (drop i clocks)) here ∙ ap (λ xs. node_reports all_nodes (n ∷ drop (i + 1) nodes) xs (drop i clocks)) there
@@ -104,12 +102,8 @@ report_more all_nodes nodes tables clocks i count n c a b all at same l is count
     line_more a b (node_lines all_nodes main n ts c) rest all line (ap (λ u. a ++ u) (sym step) ∙ before)
 
 -- four parts, one put behind the other
-pub four : (s t u v a b c d e : List ℕ) → b ≡ a ++ s → c ≡ b ++ t → d ≡ c ++ u → e ≡ d ++ v → e ≡ a ++ (s ++ (t ++ (u ++ v)))
-four s t u v a b c d e f g h i =
-    i ∙ ap (λ x. x ++ v) (h ∙ ap (λ x. x ++ u) (g ∙ ap (λ x. x ++ t) f)) ∙ append_assoc ((a ++ s) ++ t) u v ∙ append_assoc (a ++ s) t (u ++ v) ∙ append_assoc a s (t ++ (u ++ v))
-
 pub four_new : (s t u v n b c d e : List ℕ) → n ≡ [] → b ≡ n ++ s → c ≡ b ++ t → d ≡ c ++ u → e ≡ d ++ v → e ≡ s ++ (t ++ (u ++ v))
-four_new s t u v n b c d e none f g h i = four s t u v n b c d e f g h i ∙ ap (λ x. x ++ (s ++ (t ++ (u ++ v)))) none
+four_new s t u v n b c d e none f g h i = four n b c d e s t u v f g h i ∙ ap (λ x. x ++ (s ++ (t ++ (u ++ v)))) none
 
 pub five_new : (s t u v x n b c d e f : List ℕ) → n ≡ [] → b ≡ n ++ s → c ≡ b ++ t → d ≡ c ++ u → e ≡ d ++ v → f ≡ e ++ x → f ≡ s ++ (t ++ (u ++ (v ++ x)))
 five_new s t u v x n b c d e f none g h i j k =

@@ -9,11 +9,10 @@ ghost use Rattle.lucy_program.specs.Names as spec;
 use lucy_place::PlacedNode;
 use lucy_text::Text;
 use lucy_tree::Name;
-use lucy_word::OutOfMemory;
 use std::alloc::{AllocError, Global};
 
 /// Puts these bytes last.
-pub fn bytes(bytes: &[u8], out: &mut Vec<u8>) -> Result<(), OutOfMemory>
+pub fn bytes(bytes: &[u8], out: &mut Vec<u8>) -> Result<(), AllocError>
     ensures { OnOk result (out.new.items ≡ out.old.items ++ bytes.now) }
 {
     out.extend_from_slice(bytes)?;
@@ -21,18 +20,10 @@ pub fn bytes(bytes: &[u8], out: &mut Vec<u8>) -> Result<(), OutOfMemory>
 }
 
 /// Puts a number last, in decimal.
-pub fn number(alloc: Global, number: u64, out: &mut Vec<u8>) -> Result<(), OutOfMemory>
+pub fn number(alloc: Global, number: u64, out: &mut Vec<u8>) -> Result<(), AllocError>
     ensures { OnOk result (out.new.items ≡ out.old.items ++ decimal number) }
 {
     bytes(format!(in alloc; "{number}")?.as_bytes(), out)
-}
-
-// Puts a text last.
-fn push(texts: &mut Vec<Text>, text: Text) -> Result<(), AllocError>
-    ensures { OnOk result (texts.new.items ≡ texts.old.items ++ text ∷ []) }
-{
-    texts.push(text)?;
-    Ok(())
 }
 
 // The name of a place, where it has one.
@@ -44,7 +35,7 @@ fn name_at(node: &PlacedNode, place: u32) -> Option<&Name>
 }
 
 /// A place: its name, else `#` and its number.
-pub fn place_name(alloc: Global, node: &PlacedNode, place: u32) -> Result<Text, OutOfMemory>
+pub fn place_name(alloc: Global, node: &PlacedNode, place: u32) -> Result<Text, AllocError>
     ensures { IfOk result (λ text. text ≡ spec.place_name node.now place) }
 {
     match name_at(node, place) {
@@ -58,18 +49,18 @@ pub fn place_names(
     alloc: Global,
     node: &PlacedNode,
     places: &[u32],
-) -> Result<Vec<Text>, OutOfMemory>
+) -> Result<Vec<Text>, AllocError>
     ensures { IfOk result (λ v. v.items ≡ spec.place_names node.now places.now) }
 {
     let mut names = Vec::new(alloc);
     'each: for place in places {
-        push(&mut names, place_name(alloc, node, *place)?)?;
+        names.push(place_name(alloc, node, *place)?)?;
     }
     Ok(names)
 }
 
 // Names parted by `, `.
-fn listed(names: &[Text], out: &mut Vec<u8>) -> Result<(), OutOfMemory>
+fn listed(names: &[Text], out: &mut Vec<u8>) -> Result<(), AllocError>
     ensures { OnOk result (out.new.items ≡ out.old.items ++ spec.listed names.now) }
 {
     let Some((first, more)) = names.split_first() else {
@@ -84,7 +75,7 @@ fn listed(names: &[Text], out: &mut Vec<u8>) -> Result<(), OutOfMemory>
 }
 
 /// The places of this many parameters.
-pub fn param_places(alloc: Global, params: u32) -> Result<Vec<u32>, OutOfMemory>
+pub fn param_places(alloc: Global, params: u32) -> Result<Vec<u32>, AllocError>
     requires { params ≤ most_places }
     ensures { IfOk result (λ v. v.items ≡ range_with_len 1 params) }
 {
@@ -92,7 +83,7 @@ pub fn param_places(alloc: Global, params: u32) -> Result<Vec<u32>, OutOfMemory>
 }
 
 /// Puts the first line of a node last: `node NAME (PARAMS) = (RESULTS)`.
-pub fn node_line(alloc: Global, node: &PlacedNode, out: &mut Vec<u8>) -> Result<(), OutOfMemory>
+pub fn node_line(alloc: Global, node: &PlacedNode, out: &mut Vec<u8>) -> Result<(), AllocError>
     requires { node.now.params ≤ most_places }
     ensures { OnOk result (out.new.items ≡ out.old.items ++ spec.node_line node.now) }
 {

@@ -21,8 +21,8 @@ use lucy_clock::NodeClock;
 use lucy_place::{CallSite, PlaceEntry, Placed, PlacedNode};
 use lucy_tree::Name;
 use lucy_types::{Ty, Typed};
-use lucy_word::{OutOfMemory, Word};
-use std::alloc::Global;
+use lucy_word::Word;
+use std::alloc::{AllocError, Global};
 
 // The word of a clock.
 fn clock_word(
@@ -30,7 +30,7 @@ fn clock_word(
     words: &[Word],
     clock: u32,
     out: &mut Vec<u8>,
-) -> Result<(), OutOfMemory>
+) -> Result<(), AllocError>
     ensures { OnOk result (out.new.items ≡ out.old.items ++ text_of (assigned words.now clock)) }
 {
     match words.get(clock as usize) {
@@ -41,7 +41,7 @@ fn clock_word(
 
 /// Puts a type last, of a place of main or of another node: `int`, `bool`, or of an open type, which is `int` in main, `'` and the
 /// number of its class.
-pub fn type_name(alloc: Global, main: bool, ty: Ty, out: &mut Vec<u8>) -> Result<(), OutOfMemory>
+pub fn type_name(alloc: Global, main: bool, ty: Ty, out: &mut Vec<u8>) -> Result<(), AllocError>
     ensures { OnOk result (out.new.items ≡ out.old.items ++ spec.type_name main ty) }
 {
     match ty {
@@ -61,7 +61,7 @@ fn name_line(
     words: &[Word],
     place: u32,
     out: &mut Vec<u8>,
-) -> Result<(), OutOfMemory>
+) -> Result<(), AllocError>
     ensures { OnOk result (out.new.items ≡ out.old.items ++ spec.name_line main name.now ty (codes " :: " ++ text_of (assigned words.now place))) }
 {
     let Some(name) = name else {
@@ -85,7 +85,7 @@ fn name_lines(
     node: u32,
     words: &[Word],
     out: &mut Vec<u8>,
-) -> Result<(), OutOfMemory>
+) -> Result<(), AllocError>
     requires node { node < length typed.now }
     requires few { length entries.now ≤ most_places }
     requires all { length (table_at typed.now node) ≡ length entries.now }
@@ -114,7 +114,7 @@ fn adapted(
     from: u32,
     to: u32,
     out: &mut Vec<u8>,
-) -> Result<(), OutOfMemory>
+) -> Result<(), AllocError>
     ensures { OnOk result (out.new.items ≡ out.old.items ++ (text_of (assigned words.now from) ++ (codes " <: " ++ text_of (assigned words.now to)))) }
 {
     clock_word(alloc, words, from, out)?;
@@ -130,7 +130,7 @@ fn bound_of(node: &PlacedNode, buffer: u64) -> Option<u64>
 }
 
 // ` at most B`, where a bound is written.
-fn bound_part(alloc: Global, most: Option<u64>, out: &mut Vec<u8>) -> Result<(), OutOfMemory>
+fn bound_part(alloc: Global, most: Option<u64>, out: &mut Vec<u8>) -> Result<(), AllocError>
     ensures { OnOk result (out.new.items ≡ out.old.items ++ of_one (λ (bound : ℕ). codes " at most " ++ decimal bound) most) }
 {
     let Some(most) = most else {
@@ -146,7 +146,7 @@ fn size_part(
     size: u64,
     most: Option<u64>,
     out: &mut Vec<u8>,
-) -> Result<(), OutOfMemory>
+) -> Result<(), AllocError>
     ensures { OnOk result (out.new.items ≡ out.old.items ++ spec.size_part size most) }
 {
     bytes(b" size ", out)?;
@@ -163,7 +163,7 @@ fn buffer_line(
     of: u64,
     size: u64,
     out: &mut Vec<u8>,
-) -> Result<(), OutOfMemory>
+) -> Result<(), AllocError>
     ensures { OnOk result (out.new.items ≡ out.old.items ++ spec.buffer_line node.now (assigned words.now) of place size) }
 {
     let operand = first_operand(node, place).unwrap_or(0);
@@ -182,7 +182,7 @@ fn buffer_lines(
     words: &[Word],
     sizes: &[u64],
     out: &mut Vec<u8>,
-) -> Result<(), OutOfMemory>
+) -> Result<(), AllocError>
     requires { length sizes.now ≡ length node.now.buffers }
     ensures { OnOk result (out.new.items ≡ out.old.items ++ spec.buffer_lines node.now (assigned words.now) 1 node.now.buffers sizes.now) }
 {
@@ -202,7 +202,7 @@ fn call_line(
     words: &[Word],
     clock: u32,
     out: &mut Vec<u8>,
-) -> Result<(), OutOfMemory>
+) -> Result<(), AllocError>
     requires { site.now.node < length placed.now.nodes }
     ensures { OnOk result (out.new.items ≡ out.old.items ++ spec.call_line placed.now.nodes of site.now (assigned words.now clock)) }
 {
@@ -222,7 +222,7 @@ fn call_lines(
     node: &PlacedNode,
     words: &[Word],
     out: &mut Vec<u8>,
-) -> Result<(), OutOfMemory>
+) -> Result<(), AllocError>
     requires there { AllByRecursion (λ site. site.node < length placed.now.nodes) node.now.calls }
     requires few { length node.now.places ≤ most_places }
     requires few_calls { length node.now.calls ≤ most_places }
@@ -245,7 +245,7 @@ fn node_lines(
     main: bool,
     clock: &NodeClock,
     out: &mut Vec<u8>,
-) -> Result<(), OutOfMemory>
+) -> Result<(), AllocError>
     requires node { number < length placed.now.nodes }
     requires typed { IsTyped placed.now.nodes typed.now }
     requires sizes { (n : Node) → slice_get placed.now.nodes number ≡ Some n → length clock.now.sizes ≡ length n.buffers }
@@ -266,7 +266,7 @@ fn all_lines(
     placed: &Placed,
     typed: &Typed,
     clocks: &[NodeClock],
-) -> Result<Vec<u8>, OutOfMemory>
+) -> Result<Vec<u8>, AllocError>
     requires { IsReportable placed.now.nodes typed.now clocks.now }
     ensures { IfOk result (λ v. v.items ≡ spec.report placed.now.nodes typed.now clocks.now) }
 {
@@ -283,7 +283,7 @@ fn all_lines(
 /// The report: for each node its name, parameters and results, then each parameter and defined name with its type and its
 /// word, each buffer with the words that it is written and read on, its size in items and its bound, where one is written, and each call with the word of its
 /// base. Open types are `int` in main, the last node.
-pub fn report(alloc: Global, accepted: &Accepted) -> Result<Vec<u8>, OutOfMemory>
+pub fn report(alloc: Global, accepted: &Accepted) -> Result<Vec<u8>, AllocError>
     requires { (ops : List Operator) × (text : List ℕ) × (options : Choices) × IsAccepted ops options text accepted.now }
     ensures { IfOk result (λ v. v.items ≡ spec.report accepted.now.placed.nodes accepted.now.typed accepted.now.clocks.items) }
 {
@@ -296,7 +296,7 @@ pub fn report_node(
     accepted: &Accepted,
     node: u32,
     clocks: &NodeClock,
-) -> Result<Vec<u8>, OutOfMemory>
+) -> Result<Vec<u8>, AllocError>
     requires node { node < length accepted.now.placed.nodes }
     requires typed { IsTyped accepted.now.placed.nodes accepted.now.typed }
     requires sizes { (n : Node) → slice_get accepted.now.placed.nodes node ≡ Some n → length clocks.now.sizes ≡ length n.buffers }

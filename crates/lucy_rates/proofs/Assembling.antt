@@ -4,7 +4,6 @@ use Prim.Native.Nat.{◌∣◌}
 use Rattle.std.specs.Int.{IsGcd}
 use Rattle.std.specs.List.{All, Contains}
 use Rattle.std.proofs.lemmas.Bool.{cases_lt}
-use Rattle.std.proofs.lemmas.Nat.{mul-le}
 use Rattle.std.proofs.Math.Nat.{eq_of_mul-eq-mul_right, le_of_dvd, dvd-mul_left}
 use Rattle.lucy_need.specs.Meeting.{IsWithin}
 use Rattle.lucy_need.specs.Stored.{HasWords}
@@ -21,15 +20,14 @@ use Rattle.lucy_rates.proofs.Walking.{level_walk}
 use Rattle.lucy_rates.proofs.OneTree.{one_tree}
 use Rattle.lucy_rates.proofs.RatedTree.{IsPath, path_to, level_tree}
 use Rattle.lucy_rates.proofs.Completing.{contained}
-use Rattle.lucy_rates.proofs.Planting.{same_along, joined_back, joined_on}
-
-pub some_product : (a b : ℕ) → 0 < a → 0 < b → 0 < a * b
-some_product a b h k = let z : 1 * 1 ≤ a * b = mul-le 1 1 a b h k in omega arith
+use Rattle.lucy_rates.proofs.Planting.{same_along, joined_back}
+use Rattle.lucy_rates.proofs.Carrying.{joined_on}
+use Rattle.lucy_rates.proofs.Factoring.{product_some}
 
 -- the numbers of a need's factor are above 0
 pub some_factor : (need : Need) → HasWords need → (0 < over need) × (0 < under need)
-some_factor (Equal s t) h = (some_product _ _ h.0.word.has_one h.1.nonempty, some_product _ _ h.0.nonempty h.1.word.has_one)
-some_factor (Adapt s t) h = (some_product _ _ h.0.word.has_one h.1.nonempty, some_product _ _ h.0.nonempty h.1.word.has_one)
+some_factor (Equal s t) h = (product_some _ _ h.0.word.has_one h.1.nonempty, product_some _ _ h.0.nonempty h.1.word.has_one)
+some_factor (Adapt s t) h = (product_some _ _ h.0.word.has_one h.1.nonempty, product_some _ _ h.0.nonempty h.1.word.has_one)
 
 pub some_walk : (needs : List Need) → All HasWords needs → (walk : List ℕ) (c d num den : ℕ) → IsNeedWalk needs walk c d num den → (0 < num) × (0 < den)
 some_walk needs words [] c d num den h = (let a = h.1 in omega arith, let b = h.2 in omega arith)
@@ -41,8 +39,8 @@ some_walk needs words (m ∷ walk) c d num den h =
       | inl w ↦ (let p = w.2 in let q = f.0 in omega arith, let p = w.3 in let q = f.1 in omega arith)
       | inr w ↦ (let p = w.2 in let q = f.1 in omega arith, let p = w.3 in let q = f.0 in omega arith)
     ] in
-    let x = some_product r.1 r.3 one.0 rest.0 in
-    let y = some_product r.2 r.4 one.1 rest.1 in
+    let x = product_some r.1 r.3 one.0 rest.0 in
+    let y = product_some r.2 r.4 one.1 rest.1 in
     (let e = r.7 in omega arith, let e = r.8 in omega arith)
 
 -- what a walk joins lies below the number of clocks

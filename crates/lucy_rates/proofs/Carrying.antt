@@ -18,39 +18,24 @@ use Rattle.lucy_need.specs.declared.need.Needs.{Needs}
 use Rattle.lucy_shape.specs.declared.shape.Shape.{Shape}
 use Rattle.lucy_shape.specs.Fitting.{unused, clock_at, IsUsed, AreCarried, IsCarried, IsLaidOut, variable_count, position_count}
 use Rattle.lucy_need.specs.Stored.{HasWords}
-use Rattle.lucy_rates.specs.Walks.{first_of, second_of, no_need, need_at, over, under, LeadsBetween, IsNeedWalk, AreJoinedClocks}
+use Rattle.lucy_rates.specs.Walks.{first_of, second_of, no_need, need_at, over, under, IsNeedWalk, AreJoinedClocks}
 use Rattle.lucy_rates.specs.Trees.{IsNamedBy}
 use Rattle.lucy_rates.specs.Vectors.{IsInUse, IsTop, IsWideShape}
 use Rattle.lucy_rates.specs.ShapeLaws.{CarriesLaw}
-
--- walks one after the other
-pub walk_on : (needs : List Need) (v w : List ℕ) (a b c n m x y : ℕ) → IsNeedWalk needs v a b n m → IsNeedWalk needs w b c x y → IsNeedWalk needs (v ++ w) a c (n * x) (m * y)
-walk_on needs [] w a b c n m x y h k =
-    let e : n * x ≡ x = ap (λ z. z * x) h.1 ∙ omega arith in
-    let f : m * y ≡ y = ap (λ z. z * y) h.2 ∙ omega arith in
-    subst (λ (z : ℕ). IsNeedWalk needs w z c (n * x) (m * y)) (sym h.0) (subst (λ (z : ℕ). IsNeedWalk needs w b c z (m * y)) (sym e) (subst (λ (z : ℕ). IsNeedWalk needs w b c x z) (sym f) k))
-walk_on needs (i ∷ v) w a b c n m x y h k =
-    let s = h.1 in
-    let r = walk_on needs v w s.0 b c s.3 s.4 x y s.6 k in
-    let p : n * x ≡ s.1 * (s.3 * x) = ap (λ z. z * x) s.7 ∙ omega arith in
-    let q : m * y ≡ s.2 * (s.4 * y) = ap (λ z. z * y) s.8 ∙ omega arith in
-    (h.0, (s.0, s.1, s.2, s.3 * x, s.4 * y, s.5, r, p, q))
-
--- one need is a walk
-pub walk_one : (needs : List Need) (k c d n m : ℕ) → k < length needs → LeadsBetween (need_at needs k) c d n m → IsNeedWalk needs (k ∷ []) c d n m
-walk_one needs k c d n m l h = (l, (d, n, m, 1, 1, h, (refl, refl, refl), omega arith, omega arith))
+use Rattle.lucy_rates.proofs.Walking.{walk_append, one_walk}
 
 pub joined_self : (needs : List Need) (c : ℕ) → AreJoinedClocks needs c c
 joined_self needs c = ([], 1, 1, (refl, refl, refl))
 
+-- clocks that are joined to one are joined
 pub joined_on : (needs : List Need) (a b c : ℕ) → AreJoinedClocks needs a b → AreJoinedClocks needs b c → AreJoinedClocks needs a c
-joined_on needs a b c h k = (h.0 ++ k.0, h.1 * k.1, h.2 * k.2, walk_on needs h.0 k.0 a b c h.1 h.2 k.1 k.2 h.3 k.3)
+joined_on needs a b c h k = (h.0 ++ k.0, h.1 * k.1, h.2 * k.2, walk_append needs h.0 k.0 a b c h.1 h.2 k.1 k.2 h.3 k.3)
 
 pub joined_by : (needs : List Need) (k : ℕ) → k < length needs → AreJoinedClocks needs (first_of (need_at needs k)).clock (second_of (need_at needs k)).clock
-joined_by needs k l = (k ∷ [], over (need_at needs k), under (need_at needs k), walk_one needs k _ _ _ _ l (inl (refl, refl, refl, refl)))
+joined_by needs k l = (k ∷ [], over (need_at needs k), under (need_at needs k), one_walk needs k _ _ _ _ l (inl (refl, refl, refl, refl)))
 
 pub joined_back : (needs : List Need) (k : ℕ) → k < length needs → AreJoinedClocks needs (second_of (need_at needs k)).clock (first_of (need_at needs k)).clock
-joined_back needs k l = (k ∷ [], under (need_at needs k), over (need_at needs k), walk_one needs k _ _ _ _ l (inr (refl, refl, refl, refl)))
+joined_back needs k l = (k ∷ [], under (need_at needs k), over (need_at needs k), one_walk needs k _ _ _ _ l (inr (refl, refl, refl, refl)))
 
 pub walk_back : (needs : List Need) (v : List ℕ) (a b n m : ℕ) → IsNeedWalk needs v a b n m → AreJoinedClocks needs b a
 walk_back needs [] a b n m h = ([], 1, 1, (sym h.0, refl, refl))
@@ -173,7 +158,7 @@ module _ (needs : Needs) (scale lead : ℕ) (shape : Shape) (proper : AreProperN
       let kt = turns t.clock ut in
       let fs = whole_ones (clock_at shape.clocks s.clock).ones (wide.top s.clock) (r s.clock) shape.period ks.0 (length s.word.period) (top_some s.clock us) (wide.ones s.clock us) ks.1 (wide.is_vector.is.whole s.clock s.word (k, l, inl refl)) in
       let ft = whole_ones (clock_at shape.clocks t.clock).ones (wide.top t.clock) (r t.clock) shape.period kt.0 (length t.word.period) (top_some t.clock ut) (wide.ones t.clock ut) kt.1 (wide.is_vector.is.whole t.clock t.word (k, l, inr refl)) in
-      let walk = wide.is_vector.is.proportion s.clock t.clock (over need) (under need) (k ∷ []) (walk_one needs.list k _ _ _ _ l (inl (refl, refl, refl, refl))) in
+      let walk = wide.is_vector.is.proportion s.clock t.clock (over need) (under need) (k ∷ []) (one_walk needs.list k _ _ _ _ l (inl (refl, refl, refl, refl))) in
       let et : (clock_at shape.clocks t.clock).ones * wide.top s.clock ≡ r t.clock * shape.period = ap (λ z. (clock_at shape.clocks t.clock).ones * z) top ∙ wide.ones t.clock ut in
       record {
         first_used = is_used s.clock us;

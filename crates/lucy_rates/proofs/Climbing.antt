@@ -3,7 +3,7 @@ use Rattle.std.proofs.Common.{◌≡◌, ℕ, ◌+◌, ◌-◌, ◌*◌, ◌<◌
 use Rattle.std.specs.Prelude.{reverse}
 use Rattle.std.specs.List.{All, Contains}
 use Rattle.std.proofs.lemmas.Bool.{cases_lt}
-use Rattle.std.proofs.lemmas.List.{get_or_append_left, get_or-append_right, get_or-append-add, get_or-reverse, length-reverse}
+use Rattle.std.proofs.lemmas.List.{get_or_append_left, get_or-append_right, get_or-append-add, get_or-reverse, length-reverse, get_or_default}
 use Rattle.std.proofs.lemmas.List.Elements.{All-nil, All-push, All-append, All-weaker, Contains-get_or, Contains-push_cases}
 use Rattle.lucy_need.specs.Meeting.{IsWithin}
 use Rattle.lucy_need.specs.declared.need.Need.{Need}
@@ -11,7 +11,7 @@ use Rattle.lucy_rates.specs.declared.fraction.Fraction.{Fraction}
 use Rattle.lucy_rates.specs.Walks.{first_of, second_of, need_at, no_need, over, under, LeadsBetween, IsNeedWalk}
 use Rattle.lucy_rates.specs.Trees.{IsReachedByTree}
 use Rattle.lucy_rates.specs.Growing.{IsUp, IsEvenBy, ArePlanted, IsSimple, IsOther, IsWayBack, AreClimbing}
-use Rattle.lucy_rates.proofs.Growing.{both_within, same_default}
+use Rattle.lucy_rates.proofs.Growing.{both_within}
 use Rattle.lucy_rates.proofs.Walking.{walk_append, walk_back, one_walk}
 use Rattle.lucy_rates.proofs.Completing.{contained}
 
@@ -239,7 +239,7 @@ pub way_back : (needs : List Need) (clocks : ℕ) (trees : ℕ → List ℕ) (ro
 way_back needs clocks trees roots parents depths rates root h from to up down a b c e at =
     let back : All (Contains (trees root)) (reverse down) = λ i d l.
     (let m = contains_reverse down (get_or (reverse down) i d) (Contains-get_or (reverse down) i d l) in
-    subst (Contains (trees root)) m.2 (subst (Contains (trees root)) (same_default down m.0 d (get_or (reverse down) i d) m.1) (c.down_in m.0 d m.1))) in
+    subst (Contains (trees root)) m.2 (subst (Contains (trees root)) (get_or_default down m.0 d (get_or (reverse down) i d) m.1) (c.down_in m.0 d m.1))) in
     let in_tree = All-append (Contains (trees root)) up (reverse down) c.up_in back in
     record {
       root = root;

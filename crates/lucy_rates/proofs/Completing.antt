@@ -2,7 +2,7 @@
 use Rattle.std.proofs.Common.{◌≡◌, ℕ, ◌+◌, ◌-◌, ◌*◌, ◌<◌, ◌⊎◌, zero, suc, List, [], ◌∷◌, ◌++◌, length, get_or, set, eqb, inl, inr, sym, ap, ◌∙◌, subst, refl, arith}
 use Rattle.std.specs.List.{All, Contains, count_by}
 use Rattle.std.proofs.lemmas.Bool.{cases_lt, cases_eq}
-use Rattle.std.proofs.lemmas.List.{length-set}
+use Rattle.std.proofs.lemmas.List.{length-set, get_or_default}
 use Rattle.std.proofs.lemmas.List.Elements.{Contains-append_left, Contains-push, All-push, All-weaker}
 use Rattle.std.proofs.Math.Nat.{eq_of_mul-eq-mul_right}
 use Rattle.lucy_word.specs.Bits.{ones_in}
@@ -14,7 +14,7 @@ use Rattle.lucy_rates.specs.Walks.{first_of, second_of, need_at, LeadsBetween}
 use Rattle.lucy_rates.specs.Trees.{IsTree}
 use Rattle.lucy_rates.specs.Forests.{rate_at}
 use Rattle.lucy_rates.specs.Growing.{no_number, IsJoiningStep, IsGrowing, IsRated, IsLargeNext, HasLargeFrom}
-use Rattle.lucy_rates.proofs.Growing.{growth_step, growth_done, skip_at, step_at, fewer, same_default}
+use Rattle.lucy_rates.proofs.Growing.{growth_step, growth_done, skip_at, step_at, fewer}
 use Rattle.lucy_rates.proofs.Walking.{walk_append, one_walk, level_walk}
 use Rattle.lucy_rates.proofs.RatedTree.{path_to, level_tree}
 
@@ -56,7 +56,7 @@ complete zero needs clocks root tree at roots h size is_root within l = absurd (
 complete (suc fuel) needs clocks root tree at roots h size is_root within l = elim (cases_lt at (length needs)) [
   | inr m ↦ record { all = tree; is_tree = growth_done needs clocks root tree at roots h m; has = λ k i. i }
   | inl m ↦
-      let is : need_at needs at ≡ get_or needs at (need_at needs at) = same_default needs at _ _ m in
+      let is : need_at needs at ≡ get_or needs at (need_at needs at) = get_or_default needs at _ _ m in
       elim (decided needs clocks at roots) [
         | inl none ↦ complete fuel needs clocks root tree (at + 1) roots (skip_at needs clocks root tree at roots (need_at needs at) h m is_root within is none) size is_root within (omega arith)
         | inr w ↦
@@ -90,7 +90,7 @@ leads_by need s t (inr h) =
     subst (λ (y : Term). P s y) (sym h.1) (subst (λ (x : Term). P x (first_of need)) (sym h.0) here)
 
 pub contained : (needs : List Need) (tree : List ℕ) → ((i : ℕ) → i < length tree → get_or tree i 0 < length needs) → (k : ℕ) → Contains tree k → k < length needs
-contained needs tree h k i = (let e : get_or tree i.0 0 ≡ k = same_default tree i.0 0 k i.1 ∙ i.2 in let l = h i.0 i.1 in omega arith)
+contained needs tree h k i = (let e : get_or tree i.0 0 ≡ k = get_or_default tree i.0 0 k i.1 ∙ i.2 in let l = h i.0 i.1 in omega arith)
 
 -- at a rate that is too large the tree grows on to one that has it
 pub large_from : (needs : List Need) (clocks root : ℕ) (tree : List ℕ) (m : ℕ) (roots parents depths : List ℕ) (rates : List Fraction) (need : Need) (s t : Term) → IsGrowing needs clocks root tree m roots → IsRated needs root tree parents depths rates →

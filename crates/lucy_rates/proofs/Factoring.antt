@@ -27,6 +27,7 @@ use Rattle.lucy_rates.proofs.Balancing.{walks_balance}
 use Rattle.lucy_rates.proofs.Carrying.{joined_self, walk_back, walk_names, below}
 use Rattle.lucy_rates.proofs.Gauss.{quotient_some}
 
+-- a product of positive numbers is positive
 pub product_some : (a b : ℕ) → 0 < a → 0 < b → 0 < a * b
 product_some a b h k = let z : 1 * 1 ≤ a * b = mul-le 1 1 a b h k in omega arith
 

@@ -1,7 +1,7 @@
 -- How a tree grows.
-use Rattle.std.proofs.Common.{◌≡◌, ℕ, ◌+◌, ◌-◌, ◌*◌, ◌<◌, ◌≤◌, ◌⊎◌, zero, suc, List, [], ◌∷◌, ◌++◌, length, get_or, set, min, take, cond, eqb, inl, inr, sym, ap, ◌∙◌, subst, refl, arith, length-append, replicate}
+use Rattle.std.proofs.Common.{◌≡◌, ℕ, ◌+◌, ◌-◌, ◌*◌, ◌<◌, ◌≤◌, ◌⊎◌, List, [], ◌∷◌, ◌++◌, length, get_or, set, min, take, cond, eqb, inl, inr, sym, ap, ◌∙◌, subst, refl, arith, length-append, replicate}
 use Rattle.std.proofs.lemmas.Bool.{cases_lt, cases_eq}
-use Rattle.std.proofs.lemmas.List.{length-replicate, get_or-replicate, get_or_append_left, get_or-append-add, take-append-le, take_all, get_or-set_same, get_or-set_other, length-set}
+use Rattle.std.proofs.lemmas.List.{length-replicate, get_or-replicate, get_or_append_left, get_or-append-add, take-append-le, take_all, get_or-set_same, get_or-set_other, length-set, get_or_default}
 use Rattle.std.proofs.lemmas.List.Elements.{Contains-append_left, Contains-push, Contains-push_cases}
 use Rattle.std.specs.List.{All, count_by}
 use Rattle.std.proofs.lemmas.List.Sums.{sum_by-set}
@@ -179,17 +179,12 @@ none_joins needs clocks root tree at roots h l is_root a b none (inr w) =
       | inr e ↦ w.1 ((h.reached (first_of (need_at needs at)).clock a).0 e)
     ]
 
-pub same_default : {A : Type 0} (xs : List A) (i : ℕ) (d e : A) → i < length xs → get_or xs i d ≡ get_or xs i e
-same_default [] i d e l = absurd (omega arith)
-same_default (x ∷ xs) zero d e l = refl
-same_default (x ∷ xs) (suc i) d e l = same_default xs i d e (omega arith)
-
 pub both_within : (n : ℕ) (need : Need) → IsWithin n need → ((first_of need).clock < n) × ((second_of need).clock < n)
 both_within n (Equal s t) h = h
 both_within n (Adapt s t) h = h
 
 pub need_is : (needs : List Need) (at : ℕ) (need : Need) → at < length needs → need ≡ get_or needs at need → need ≡ need_at needs at
-need_is needs at need l e = e ∙ same_default needs at need no_need l
+need_is needs at need l e = e ∙ get_or_default needs at need no_need l
 
 pub skip_at : (needs : List Need) (clocks root : ℕ) (tree : List ℕ) (at : ℕ) (roots : List ℕ) (need : Need) → IsGrowing needs clocks root tree at roots → at < length needs → (root ≡ no_number → ⊥) →
     All (IsWithin clocks) needs → need ≡ get_or needs at need → ((s t : Term) → IsJoiningStep roots need s t → ⊥) → IsGrowing needs clocks root tree (at + 1) roots

@@ -2,13 +2,12 @@
 use Rattle.std.proofs.Common.{◌≡◌, ℕ, ◌+◌, ◌*◌, ◌<◌, ◌≤◌, ◌⊎◌, zero, suc, List, [], ◌∷◌, ◌++◌, length, get_or, take, inl, inr, sym, ap, ◌∙◌, subst, refl, arith, length-append}
 use Rattle.std.specs.List.{All, Contains}
 use Rattle.std.proofs.lemmas.Bool.{cases_order}
-use Rattle.std.proofs.lemmas.List.{get_or_append_left, take_all, take_more}
+use Rattle.std.proofs.lemmas.List.{get_or_append_left, take_all, take_more, get_or_default}
 use Rattle.std.proofs.lemmas.List.Elements.{All-nil, All-cons, All-head, All-tail, Contains-push_cases}
 use Rattle.lucy_need.specs.declared.need.Need.{Need}
 use Rattle.lucy_rates.specs.Walks.{first_of, second_of, need_at, LeadsBetween, IsNeedWalk, IsRoot}
 use Rattle.lucy_rates.specs.Trees.{IsNamedBy, IsReachedByTree, JoinsMore, IsTree, OneWalkLaw}
 use Rattle.lucy_rates.specs.Growing.{IsSimple}
-use Rattle.lucy_rates.proofs.Growing.{same_default}
 use Rattle.lucy_rates.proofs.OneTree.{one_tree}
 
 simple_tail : (x : ℕ) (xs : List ℕ) → IsSimple (x ∷ xs) → IsSimple xs
@@ -20,7 +19,7 @@ simple_front xs x h i j l m e =
     h i j l (omega arith) (get_or_append_left xs (x ∷ []) 0 i (omega arith) ∙ e ∙ sym (get_or_append_left xs (x ∷ []) 0 j m))
 
 first_once : (x : ℕ) (xs : List ℕ) → IsSimple (x ∷ xs) → Contains xs x → ⊥
-first_once x xs h i = h 0 (suc i.0) (omega arith) (let l = i.1 in omega arith) (sym i.2 ∙ same_default xs i.0 x 0 i.1)
+first_once x xs h i = h 0 (suc i.0) (omega arith) (let l = i.1 in omega arith) (sym i.2 ∙ get_or_default xs i.0 x 0 i.1)
 
 nothing_in : (xs : List ℕ) → All (Contains []) xs → xs ≡ []
 nothing_in [] all = refl
@@ -96,7 +95,7 @@ module _ (needs : List Need) (root : ℕ) where
     inside w all out i d l =
         elim (Contains-push_cases tree k (get_or w i d) (all i d l)) [
           | inl old ↦ old
-          | inr same ↦ absurd (out (i, l, same_default w i k d l ∙ sym same))
+          | inr same ↦ absurd (out (i, l, get_or_default w i k d l ∙ sym same))
         ]
 
     by_twig : (w : List ℕ) (c d a b : ℕ) → IsNeedWalk needs (k ∷ w) c d a b → All (Contains tree) w → Shape (k ∷ w) c d

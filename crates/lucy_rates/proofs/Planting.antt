@@ -14,9 +14,10 @@ use Rattle.lucy_rates.specs.Trees.{IsTree, IsReachedByTree, IsNamedBy, HasLargeR
 use Rattle.lucy_rates.specs.Forests.{rate_at, no_rate, IsRateFraction}
 use Rattle.lucy_rates.specs.Growing.{no_number, IsNear, IsGrowing, IsUp, IsRated, AreKept, ArePlanted, AreDeep, HasLargeFrom}
 use Rattle.lucy_rates.proofs.Growing.{both_within, one_fewer}
-use Rattle.lucy_rates.proofs.Walking.{walk_append, walk_back}
+use Rattle.lucy_rates.proofs.Walking.{walk_back}
 use Rattle.lucy_rates.proofs.RatedTree.{path_to}
 use Rattle.lucy_rates.proofs.Completing.{contained}
+use Rattle.lucy_rates.proofs.Carrying.{joined_on}
 
 -- what is the same at both ends of each need is the same at both ends of a walk
 pub same_along : (needs : List Need) (f : ℕ → ℕ) → ((k : ℕ) → k < length needs → f (first_of (need_at needs k)).clock ≡ f (second_of (need_at needs k)).clock) →
@@ -32,9 +33,6 @@ same_along needs f apart (m ∷ walk) c d num den h =
 
 pub joined_back : (needs : List Need) (c d : ℕ) → AreJoinedClocks needs c d → AreJoinedClocks needs d c
 joined_back needs c d h = (_, h.2, h.1, walk_back needs h.0 c d h.1 h.2 h.3)
-
-pub joined_on : (needs : List Need) (c d e : ℕ) → AreJoinedClocks needs c d → AreJoinedClocks needs d e → AreJoinedClocks needs c e
-joined_on needs c d e h k = (_, h.1 * k.1, h.2 * k.2, walk_append needs h.0 k.0 c d e h.1 h.2 k.1 k.2 h.3 k.3)
 
 -- the rates of a tree stay where its clocks keep all
 rated_kept : (needs : List Need) (root : ℕ) (tree p d p' d' : List ℕ) (x x' : List Fraction) → IsRated needs root tree p d x →

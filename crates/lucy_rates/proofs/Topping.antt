@@ -1,9 +1,9 @@
 -- Tops of components, their common period, and the longest prefixes.
-use Rattle.std.proofs.Common.{◌≡◌, ℕ, zero, suc, ◌<◌, ◌≤◌, ◌⊎◌, ◌↔◌, max, Bool, true, false, not, ◌||◌, cond, eqb, List, length, inl, inr, sym, ap, ◌∙◌, subst, refl, arith, eq-eqb}
+use Rattle.std.proofs.Common.{◌≡◌, ℕ, zero, suc, ◌<◌, ◌≤◌, ◌⊎◌, ◌↔◌, max, Bool, true, false, not, ◌||◌, cond, eqb, List, length, inl, inr, sym, ap, ◌∙◌, subst, arith, eq-eqb}
 use Rattle.std.specs.Prelude.{slice_index}
 use Prim.Native.Nat.{◌∣◌}
 use Rattle.std.proofs.Math.Nat.{dvd_refl, le_of_dvd}
-use Rattle.std.proofs.lemmas.Bool.{cases_lt, cases_eq, cases_Bool, false≢true, and_parts, and_from, or_cases, eqb-true, eqb-false, ne_eqb, not-true}
+use Rattle.std.proofs.lemmas.Bool.{cases_lt, cases_eq, cases_Bool, false≢true, and_parts, and_from, or_cases, eqb-true, eqb-false, ne_eqb, not-true, or_right, or_left}
 use Rattle.lucy_need.specs.Meeting.{term}
 use Rattle.lucy_need.specs.declared.need.Term.{Term}
 use Rattle.lucy_need.specs.declared.need.Need.{Need}
@@ -14,13 +14,6 @@ use Rattle.lucy_rates.specs.Vectors.{IsNamedBySome, IsInUse, IsTop, IsCommonPeri
 use Rattle.lucy_rates.specs.Laying.{counts_for, top_to, counts, IsCommonTo, prefix_of, longest_to}
 use Rattle.lucy_rates.proofs.Dividing.{IsCollected, collected_both, collected_same, collected_free}
 use Rattle.lucy_rates.proofs.Factoring.{AreRated, joined_within, root_within, root_root}
-
-pub or_right : (x y : Bool) → y ≡ true → (x || y) ≡ true
-or_right true y e = refl
-or_right false y e = e
-
-pub or_left : (x y : Bool) → x ≡ true → (x || y) ≡ true
-or_left x y e = ap (λ z. z || y) e
 
 -- whose number counts for a root's top
 pub counts_true : (roots : List ℕ) (root c : ℕ) → counts_for roots root c ≡ true → (slice_index roots c ≡ root) × ((c ≡ 0) ⊎ (root ≡ 0 → ⊥))

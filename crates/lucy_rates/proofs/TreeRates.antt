@@ -22,7 +22,8 @@ use Rattle.lucy_rates.proofs.RatedTree.{IsPath, path_on}
 use Rattle.lucy_rates.proofs.Completing.{left, complete, contained}
 use Rattle.lucy_rates.proofs.Planting.{joined_back}
 use Rattle.lucy_rates.proofs.Gauss.{apart, reduced_same}
-use Rattle.lucy_rates.proofs.Assembling.{some_product, some_factor, some_walk, some_den, same_rate}
+use Rattle.lucy_rates.proofs.Assembling.{some_factor, some_walk, some_den, same_rate}
+use Rattle.lucy_rates.proofs.Factoring.{product_some}
 
 none : (k : ℕ) → Contains [] k → ⊥
 none k i = (let l = i.1 in absurd (omega arith))
@@ -226,14 +227,14 @@ module _ (needs : List Need) (root : ℕ) where
         elim twig.ends [
           | inl w ↦
               let some : (0 < ahead.num) × (0 < ahead.den) =
-              (some_product r.num (over need) (a.some old).0 f.0, some_product r.den (under need) (a.some old).1 f.1) in
+              (product_some r.num (over need) (a.some old).0 f.0, product_some r.den (under need) (a.some old).1 f.1) in
               with_next ahead some (level_from (with_rate a.rate new ahead) k r ahead (good ahead some)
               (ap (with_rate a.rate new ahead) w.0
               ∙ with_old a.rate new ahead old apart) (with_new a.rate new ahead (second_of need).clock w.1)
               (let e : r.num * (r.den * under need) * over need ≡ r.num * over need * r.den * under need = omega arith in e))
           | inr w ↦
               let some : (0 < behind.num) × (0 < behind.den) =
-              (some_product r.num (under need) (a.some old).0 f.1, some_product r.den (over need) (a.some old).1 f.0) in
+              (product_some r.num (under need) (a.some old).0 f.1, product_some r.den (over need) (a.some old).1 f.0) in
               with_next behind some (level_from (with_rate a.rate new behind) k behind r (good behind some)
               (with_new a.rate new behind (first_of need).clock w.0) (ap (with_rate a.rate new behind) w.1
               ∙ with_old a.rate new behind old apart)
@@ -258,7 +259,7 @@ cross u v a b x y some_u some_v e f =
     let p : u * b * (v * x) ≡ v * a * (v * x) = ap (λ z. z * (v * x)) e in
     let q : u * y * (v * a) ≡ v * x * (v * a) = ap (λ z. z * (v * a)) f in
     let g : a * y * (u * v) ≡ x * b * (u * v) = omega arith in
-    eq_of_mul-eq-mul_right (u * v) (some_product u v some_u some_v) (a * y) (x * b) g
+    eq_of_mul-eq-mul_right (u * v) (product_some u v some_u some_v) (a * y) (x * b) g
 
 other_walk : (a b x y m e : ℕ) → 0 < y → a * y ≡ x * b → m * y ≡ x * e → m * b ≡ e * a
 other_walk a b x y m e some f g =
@@ -280,8 +281,8 @@ rate_one needs c num den n d words p q =
     λ walk all. All-weaker (Contains q.tree) (IsLevelBy needs a.rate) (λ k i. a.level k i) walk all in
     let e = level_walk_by needs a.rate p.walk q.root c p.a p.b (level p.walk inside) along in
     let f = level_walk_by needs a.rate q.walk q.root c q.a q.b (level q.walk q.in_tree) q.along in
-    let u = some_product (a.rate c).num (a.rate q.root).den (a.some c).0 (a.some q.root).1 in
-    let v = some_product (a.rate q.root).num (a.rate c).den (a.some q.root).0 (a.some c).1 in
+    let u = product_some (a.rate c).num (a.rate q.root).den (a.some c).0 (a.some q.root).1 in
+    let v = product_some (a.rate q.root).num (a.rate c).den (a.some q.root).0 (a.some c).1 in
     let both = cross _ _ p.a p.b q.a q.b u v e f in
     let some_b = (some_walk needs words p.walk q.root c p.a p.b along).1 in
     let some_y = (some_walk needs words q.walk q.root c q.a q.b q.along).1 in

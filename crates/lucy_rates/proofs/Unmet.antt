@@ -21,7 +21,7 @@ use Rattle.lucy_rates.specs.Walks.{first_of, second_of, need_at, no_need, IsNeed
 use Rattle.lucy_rates.specs.Trees.{AreEven}
 use Rattle.lucy_rates.proofs.Growing.{both_within}
 use Rattle.lucy_rates.proofs.Walking.{IsLevelBy, level_walk_by}
-use Rattle.lucy_rates.proofs.Assembling.{some_product}
+use Rattle.lucy_rates.proofs.Factoring.{product_some}
 
 -- the rate of a word on a word is the product of theirs
 on_rate : (a b w : Bits) → IsOn a b w → IsWord a → IsWord b → IsWord w → ones_in w.period * (length a.period * length b.period) ≡ ones_in a.period * ones_in b.period * length w.period
@@ -48,7 +48,7 @@ even_terms oa la ob lb ou lu ov lv ox lx oy ly some_x some_y h k e =
     let q : oy * (lb * lv) * (la * lu * lx) ≡ ob * ov * ly * (la * lu * lx) = ap (λ z. z * (la * lu * lx)) k in
     let r : ox * ly * (la * lu * (lb * lv)) ≡ oy * lx * (la * lu * (lb * lv)) = ap (λ z. z * (la * lu * (lb * lv))) e in
     let s : oa * lb * (ou * lv) * (lx * ly) ≡ ob * la * (lu * ov) * (lx * ly) = omega arith in
-    eq_of_mul-eq-mul_right (lx * ly) (some_product lx ly some_x some_y) (oa * lb * (ou * lv)) (ob * la * (lu * ov)) s
+    eq_of_mul-eq-mul_right (lx * ly) (product_some lx ly some_x some_y) (oa * lb * (ou * lv)) (ob * la * (lu * ov)) s
 
 -- the rate of a clock's word
 abbrev rate_in : Assignment → ℕ → Fraction
@@ -95,5 +95,5 @@ unmet_law needs clocks w walk within words assigned met h =
     let word = assigned h.clock (start_within needs clocks within' walk h.clock h.clock h.num h.den h.some h.round) in
     let n = ones_in (w h.clock).period in
     let d = length (w h.clock).period in
-    let some : 0 < n * d = some_product n d word.has_one (period_some (w h.clock) word) in
+    let some : 0 < n * d = product_some n d word.has_one (period_some (w h.clock) word) in
     h.unequal (eq_of_mul-eq-mul_right (n * d) some h.num h.den (let e : n * d * h.den ≡ n * d * h.num = level in omega arith))

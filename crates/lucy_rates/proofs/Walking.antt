@@ -15,6 +15,7 @@ pub leads_back : (need : Need) (c d a b : ℕ) → LeadsBetween need c d a b →
 leads_back need c d a b (inl h) = inr (h.1, h.0, h.3, h.2)
 leads_back need c d a b (inr h) = inl (h.1, h.0, h.3, h.2)
 
+-- walks one after the other
 pub walk_append : (needs : List Need) (w v : List ℕ) (c e d a b x y : ℕ) → IsNeedWalk needs w c e a b → IsNeedWalk needs v e d x y → IsNeedWalk needs (w ++ v) c d (a * x) (b * y)
 walk_append needs [] v c e d a b x y h k =
     let p : a * x ≡ x = ap (λ z. z * x) h.1 ∙ omega arith in
@@ -37,6 +38,7 @@ walk_append needs (m ∷ w) v c e d a b x y h k =
       ),
     )
 
+-- one need is a walk
 pub one_walk : (needs : List Need) (k c d a b : ℕ) → k < length needs → LeadsBetween (need_at needs k) c d a b → IsNeedWalk needs (k ∷ []) c d a b
 one_walk needs k c d a b l h = (l, (d, a, b, 1, 1, h, (refl, refl, refl), omega arith, omega arith))
 

@@ -5,12 +5,12 @@ use Rattle.std.specs.List.{range_with_len}
 use Rattle.std.proofs.lemmas.Option.{slice_get_within, slice_get-get_or, slice_get-map}
 use Rattle.lucy_word.specs.Bits.{Bits}
 use Rattle.lucy_word.specs.Always.{always}
+use Rattle.lucy_host.proofs.Elements.{get_there}
 use Rattle.lucy_place.specs.declared.placed.PlacedNode.{PlacedNode}
 use Rattle.lucy_place.specs.Proper.{AreProper}
 use Rattle.lucy_clock.specs.declared.node_clock.NodeClock.{NodeClock}
 use Rattle.lucy_clock.specs.Clocks.{clocks_of}
 use Rattle.lucy_kahn.specs.Spots.{main_of, results_in}
-use Rattle.lucy_kahn.proofs.JoinedLists.{there}
 use Rattle.lucy_kahn.proofs.Closed.{place_of}
 use Rattle.lucy_flat.specs.Instances.{words_in}
 use Rattle.lucy_flat.specs.Clocked.{AreClocked}
@@ -34,7 +34,7 @@ pub main_is : (nodes : List PlacedNode) (clocks : List NodeClock) (main : ℕ) (
 main_is nodes clocks main node proper clocked e f =
     let node_is : main_of nodes ≡ Some node = ap (slice_get nodes) (sym e) ∙ f in
     let within = slice_get_within nodes main node f in
-    let clock = there clocks main (omega (arith, clocked.count, within)) in
+    let clock = get_there clocks main (omega (arith, clocked.count, within)) in
     let own = proper main node f in
     let is = clocked.each main node clock.0 f clock.1 in
     record {

@@ -11,7 +11,6 @@ use Rattle.lucy_host.specs.OpValue.{op_value}
 use Rattle.lucy_host.specs.Arity.{arity}
 use Rattle.lucy_host.specs.HostValue.{hosted_value}
 use Rattle.lucy_host.specs.declared.kind.HostKind.{HostKind}
-use Rattle.lucy_net.proofs.NetLaws.{one_more}
 use Rattle.lucy_stream.specs.Items.{item_at, list_at}
 use Rattle.lucy_stream.specs.Forms.{Form, Given, Constant, Pointwise, Hosted, Kept, Merged, Delayed, Same, operands}
 use Rattle.lucy_stream.specs.Merges.{merge_item, merged}
@@ -20,13 +19,7 @@ use Rattle.lucy_stream.specs.Firings.{gave_in, took_in}
 use Rattle.lucy_stream.proofs.KeptLaws.{kept-length}
 use Rattle.lucy_stream.proofs.MergeLaws.{merge_item-one, merge_item-zero, get_some, merged-is}
 use Rattle.lucy_stream.proofs.ListLaws.{arity-some}
-
--- counts rise by at most one an instant
-ones_rise : (word : Bits) (n k : ℕ) → ones_to word (n + k) ≤ ones_to word n + k
-ones_rise word n zero = (let e : ones_to word (n + 0) ≡ ones_to word n = ap (ones_to word) (omega arith) in omega arith)
-ones_rise word n (suc k) =
-    let e : ones_to word (n + suc k) ≡ ones_to word (n + k + 1) = ap (ones_to word) (omega arith) in
-    omega (arith, ones_rise word n k, one_more word (n + k))
+use Rattle.lucy_stream.proofs.FiringLaws.{ones_to-most}
 
 -- where no list is shorter than so many items, the shortest isn't
 shortest-least : (count n : ℕ) (lists : List (List ℤ)) → 0 < count → ((i : ℕ) → i < count → n ≤ length (list_at lists i)) →
@@ -45,7 +38,7 @@ merged-past : (word : Bits) (xs ys : List ℤ) (n k : ℕ) → ones_to word n �
 merged-past word xs ys n k ones zeros l none =
     let rises : ones_to word (k + 1) ≤ ones_to word n = ones_to-rises word (k + 1) n (omega arith) in
     let last : ones_to word (k + 1 + (n - (k + 1))) ≡ ones_to word n = ap (ones_to word) (omega arith) in
-    let most : ones_to word (k + 1 + (n - (k + 1))) ≤ ones_to word (k + 1) + (n - (k + 1)) = ones_rise word (k + 1) (n - (k + 1)) in
+    let most : ones_to word (k + 1 + (n - (k + 1))) ≤ ones_to word (k + 1) + (n - (k + 1)) = ones_to-most word (k + 1) (n - (k + 1)) in
     let more : ones_to word (k + 1) ≡ ones_to word k + one_if (bit_at word (k + 1)) = ones_to-more word k in
     elim (cases_Bool (bit_at word (k + 1))) [
       | inl b ↦
@@ -98,8 +91,3 @@ form_list-enough kinds inputs n (Merged word) lists fired given few took =
     merged-least word (list_at lists 0) (list_at lists 1) fired (took 0 (omega arith)) (took 1 (omega arith))
 form_list-enough kinds inputs n (Delayed first) lists fired given few took = omega (arith, took 0 (omega arith))
 form_list-enough kinds inputs n Same lists fired given few took = took 0 (omega arith)
-
--- no more are given than there are firings
-pub gave_in-le : (form : Form) (fired : ℕ) → gave_in form fired ≤ fired
-gave_in-le (Kept word) fired = ones_to-le word fired
-gave_in-le form fired = omega arith

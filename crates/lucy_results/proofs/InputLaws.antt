@@ -8,6 +8,7 @@ use Rattle.lucy_place.specs.declared.placed.PlacedNode.{PlacedNode}
 use Rattle.lucy_place.specs.declared.entry.PlaceKind.{PlaceKind}
 use Rattle.lucy_place.specs.declared.entry.PlaceKind.TheVariants as place_kind
 use Rattle.lucy_place.specs.Proper.{IsProperKind, AreProper}
+use Rattle.lucy_place.proofs.NodeLaws.{only_param}
 use Rattle.lucy_clock.specs.declared.node_clock.NodeClock.{NodeClock}
 use Rattle.lucy_net.specs.declared.kind.ActorKind.TheVariants as actor_kind
 use Rattle.lucy_net.specs.declared.net.Actor.{Actor}
@@ -20,19 +21,6 @@ use Rattle.lucy_flat.specs.Flat.{actor_of, IsFlat}
 use Rattle.lucy_runner.specs.Views.{after_input, input_count, input_for, inputs_for}
 use Rattle.lucy_runner.proofs.InputLaws.{read_here, counted_here}
 use Rattle.lucy_results.proofs.NetLaws.{main_param, each_actor}
-
--- a kind that stands no later than the parameters is a parameter
-only_param : (n : PlacedNode) (p : ℕ) (kind : PlaceKind) → p ≤ n.params → IsProperKind n p kind → kind ≡ place_kind.Param
-only_param n p place_kind.Param low is = refl
-only_param n p (place_kind.Defined e) low is = absurd (let l : n.params < p = is.0 in omega arith)
-only_param n p (place_kind.Lit l) low is = absurd (let l : n.params < p = is in omega arith)
-only_param n p (place_kind.Op op args) low is = absurd (let l : n.params < p = is.0 in omega arith)
-only_param n p (place_kind.Host op a b) low is = absurd (let l : n.params < p = is.0 in omega arith)
-only_param n p (place_kind.When e w) low is = absurd (let l : n.params < p = is.0 in omega arith)
-only_param n p (place_kind.Merge w a b) low is = absurd (let l : n.params < p = is.0 in omega arith)
-only_param n p (place_kind.Fby l e) low is = absurd (let l : n.params < p = is.0 in omega arith)
-only_param n p (place_kind.Buffer k e) low is = absurd (let l : n.params < p = is.0 in omega arith)
-only_param n p (place_kind.Result c j) low is = absurd (let l : n.params < p = is.0 in omega arith)
 
 -- the first places of main are its parameters
 param_is : (nodes : List PlacedNode) → AreProper nodes → (i : ℕ) → i < params_in (main_of nodes) → kind_at nodes (at [] (suc i)) ≡ Some place_kind.Param

@@ -11,6 +11,7 @@ use Rattle.lucy_word.proofs.IndexLaws.{ones_to-same}
 use Rattle.lucy_word.proofs.SamplingLaws.{ones_to-on}
 use Rattle.lucy_host.specs.declared.kind.HostKind.{HostKind}
 use Rattle.lucy_host.specs.Operators.{Operator}
+use Rattle.lucy_host.proofs.Elements.{get_there}
 use Rattle.lucy_stream.specs.Items.{list_at}
 use Rattle.lucy_stream.specs.Iterates.{iterate}
 use Rattle.lucy_stream.specs.Plans.{Task, HasInput, GiveBelow, IsRunnable, kahn_list}
@@ -36,7 +37,7 @@ use Rattle.lucy_kahn.specs.Sizes.{all_places}
 use Rattle.lucy_kahn.specs.Numbers.{number}
 use Rattle.lucy_kahn.specs.Kahn.{kahn}
 use Rattle.lucy_kahn.specs.Horizons.{Suffice}
-use Rattle.lucy_kahn.proofs.JoinedLists.{there, get_range, mapped}
+use Rattle.lucy_kahn.proofs.JoinedLists.{get_range, mapped}
 use Rattle.lucy_kahn.proofs.Paths.{low_of, is_at, path_node, proper_at}
 use Rattle.lucy_kahn.proofs.Numbered.{number_reached}
 use Rattle.lucy_kahn.specs.Turns.{params_in}
@@ -129,7 +130,7 @@ module _ (nodes : List PlacedNode) (clocks : List NodeClock) (proper : AreProper
           | inr high ↦
               let within = slice_get_within net.actors a actor e in
               let i : ℕ = a - all_places nodes in
-              let result = there (results_in (main_of nodes)) i (omega (arith, within, high, flat.count)) in
+              let result = get_there (results_in (main_of nodes)) i (omega (arith, within, high, flat.count)) in
               let of = flat.outputs i result.0 result.1 in
               let number : all_places nodes + i ≡ a = omega (arith, high) in
               let same : of.actor ≡ actor = same_Some of.actor actor (sym of.there ∙ ap (slice_get net.actors) number ∙ e) in
@@ -157,7 +158,7 @@ module _ (nodes : List PlacedNode) (clocks : List NodeClock) (proper : AreProper
     output_gives a actor e high =
         let within = slice_get_within net.actors a actor e in
         let i : ℕ = a - all_places nodes in
-        let result = there (results_in (main_of nodes)) i (omega (arith, within, high, flat.count)) in
+        let result = get_there (results_in (main_of nodes)) i (omega (arith, within, high, flat.count)) in
         let of = flat.outputs i result.0 result.1 in
         let number : all_places nodes + i ≡ a = omega (arith, high) in
         let same : of.actor ≡ actor = same_Some of.actor actor (sym of.there ∙ ap (slice_get net.actors) number ∙ e) in

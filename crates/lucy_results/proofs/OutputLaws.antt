@@ -1,12 +1,13 @@
 -- The outputs of a runner of a program's flat net, list by list.
-use Rattle.std.proofs.Common.{ℕ, ◌+◌, ◌-◌, ◌<◌, ◌≤◌, ◌≡◌, List, [], ◌∷◌, ◌++◌, Some, length, map, take, drop, get_or, ap, sym, ◌∙◌, inl, inr, arith}
-use Rattle.std.specs.Prelude.{ℤ, slice_get, slice_index, option_map, replicate}
-use Rattle.std.proofs.lemmas.List.{length-map, length-replicate, get_or-replicate, get_or_past, take_more}
-use Rattle.std.proofs.lemmas.Bool.{cases_lt}
+use Rattle.std.proofs.Common.{ℕ, ◌+◌, ◌-◌, ◌<◌, ◌≤◌, ◌≡◌, List, [], ◌∷◌, ◌++◌, Some, length, map, take, drop, get_or, ap, sym, ◌∙◌, arith}
+use Rattle.std.specs.Prelude.{ℤ, slice_get, option_map}
+use Rattle.std.proofs.lemmas.List.{length-map, take_more}
 use Rattle.std.proofs.lemmas.Option.{get_or_from_slice_get, slice_get-map}
 use Rattle.lucy_word.specs.Bits.{Bits, ones_to}
+use Rattle.lucy_word.proofs.Lists.{zeros_at}
 use Rattle.lucy_host.specs.declared.kind.HostKind.{HostKind}
 use Rattle.lucy_host.specs.Operators.{Operator, kinds_of}
+use Rattle.lucy_host.proofs.Elements.{get_there}
 use Rattle.lucy_stream.specs.Plans.{GiveBelow}
 use Rattle.lucy_place.specs.declared.placed.PlacedNode.{PlacedNode}
 use Rattle.lucy_place.specs.Proper.{AreProper}
@@ -18,7 +19,6 @@ use Rattle.lucy_core.specs.Seen.{Seen, IsOver, IsUnbegun, IsOutputOf, first_ring
 use Rattle.lucy_runner.specs.Views.{RunnerView}
 use Rattle.lucy_kahn.specs.Spots.{main_of, results_in}
 use Rattle.lucy_kahn.specs.Sizes.{all_places}
-use Rattle.lucy_kahn.proofs.JoinedLists.{there}
 use Rattle.lucy_flat.specs.Flat.{IsFlat}
 use Rattle.lucy_results.specs.Streams.{main_stream, later_stream, later_streams, cut_to}
 use Rattle.lucy_results.proofs.NetLaws.{main_counts, output_of, output_stream, gives_below}
@@ -28,6 +28,7 @@ use Rattle.lucy_results.proofs.StreamLaws.{cut_at, cut_count}
 pub main_here : (nodes : List PlacedNode) (count main : ℕ) (node : PlacedNode) → count ≡ length nodes → main ≡ count - 1 → slice_get nodes main ≡ Some node → main_of nodes ≡ Some node
 main_here nodes count main node e f g = ap (slice_get nodes) (sym (f ∙ ap (λ n. n - 1) e)) ∙ g
 
+-- main has as many results as its node
 pub results_here : (nodes : List PlacedNode) (node : PlacedNode) → main_of nodes ≡ Some node → length (results_in (main_of nodes)) ≡ length node.results
 results_here nodes node e = ap (λ o. length (results_in o)) e
 
@@ -40,7 +41,7 @@ few_places nodes clocks net flat = omega (arith, flat.count, flat.proper.few_act
 
 pub output_there : (nodes : List PlacedNode) (clocks : List NodeClock) (net : Net) → AreProper nodes → IsFlat nodes clocks net → (i : ℕ) → i < length (results_in (main_of nodes)) → (a : ℕ) × (actor : Actor) × IsOutputOf net i a actor
 output_there nodes clocks net proper flat i l =
-    let place = there (results_in (main_of nodes)) i l in
+    let place = get_there (results_in (main_of nodes)) i l in
     (all_places nodes + i, (flat.outputs i place.0 place.1).actor, output_of nodes clocks proper net flat i place.0 place.1)
 
 -- the stream of a result, among those of all results
@@ -61,7 +62,7 @@ next_output view nodes clocks proper flat over i l list told =
     let kinds : List HostKind = kinds_of seen.operators in
     let later : ℕ → List ℤ = later_stream kinds seen.inputs nodes clocks view.before seen.instants in
     let streams : List (List ℤ) = later_streams kinds seen.inputs nodes clocks view.before seen.instants in
-    let place = there (results_in (main_of nodes)) i l in
+    let place = get_there (results_in (main_of nodes)) i l in
     let of = flat.outputs i place.0 place.1 in
     let is : list ≡ later place.0 =
     told (all_places nodes + i) (all_places nodes) of.actor (output_of nodes clocks proper seen.net flat i place.0 place.1) (gives_below nodes clocks proper seen.net flat seen.instants) over
@@ -79,12 +80,6 @@ next_cut t words lists i word list l m e f =
     ap (λ xs. take i (cut_to t words lists) ++ xs ∷ []) is ∙ sym (take_more (cut_to t words lists) i [] (omega (arith, m, cut_count t words lists l)))
 
 -- nothing is done in a new core
-none_of : (n a : ℕ) → slice_index (replicate n 0) a ≡ 0
-none_of n a = elim (cases_lt a n) [
-  | inl low ↦ get_or-replicate n a 0 0 low
-  | inr high ↦ get_or_past (replicate n 0) a 0 (omega (arith, length-replicate {A = ℕ} n 0))
-]
-
 pub first_unbegun : (net : Net) (schedule : Timetable) (inputs : List (List ℤ)) (operators : List Operator) (instants : ℕ) → IsUnbegun (first_seen net schedule inputs operators instants)
 unfolding done_of
-first_unbegun net schedule inputs operators instants a = none_of (length net.actors) a
+first_unbegun net schedule inputs operators instants a = zeros_at (length net.actors) a

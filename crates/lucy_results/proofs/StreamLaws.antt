@@ -1,6 +1,6 @@
 -- What holds of the output streams.
-use Rattle.std.proofs.Common.{ℕ, suc, zero, ◌+◌, ◌*◌, ◌≤◌, ◌≡◌, List, [], ◌∷◌, ◌++◌, Some, length, map, take, set, ap, sym, refl, ◌∙◌, arith}
-use Rattle.std.specs.Prelude.{ℤ, slice_get, slice_index_or}
+use Rattle.std.proofs.Common.{ℕ, suc, zero, ◌+◌, ◌*◌, ◌≤◌, ◌≡◌, List, [], ◌∷◌, Some, length, map, take, ap, sym, refl, ◌∙◌, arith}
+use Rattle.std.specs.Prelude.{ℤ, slice_get}
 use Rattle.std.proofs.lemmas.List.{length-map, length-take-le}
 use Rattle.std.proofs.lemmas.List.FromFn.{length-map-range_with_len}
 use Rattle.std.proofs.lemmas.Simd.{map-map}
@@ -139,19 +139,3 @@ two_agree seen nodes clocks i place a actor proper flat sound params suffice e o
     ap (λ (x : Actor). take (ones_to x.firing t) (stream_of seen (all_places nodes) (first_ring x))) (sym same)
     ∙ output_stream nodes clocks proper seen.net flat kinds seen.inputs t i place e
     ∙ sym (cut_stream nodes clocks proper schedule seen.inputs params t suffice kinds i place e)
-
--- one item more at the end of the last list
-last_is : (lists : List (List ℤ)) (list : List ℤ) → slice_index_or (lists ++ list ∷ []) (length lists) [] ≡ list
-last_is [] list = refl
-last_is (xs ∷ lists) list = last_is lists list
-
-last_set : (lists : List (List ℤ)) (list new : List ℤ) → set (lists ++ list ∷ []) (length lists) new ≡ lists ++ new ∷ []
-last_set [] list new = refl
-last_set (xs ∷ lists) list new = ap (λ ys. xs ∷ ys) (last_set lists list new)
-
-pub grown_last : (lists : List (List ℤ)) (list : List ℤ) (i : ℕ) (item : ℤ) → i ≡ length lists →
-    set (lists ++ list ∷ []) i (slice_index_or (lists ++ list ∷ []) i [] ++ item ∷ []) ≡ lists ++ (list ++ item ∷ []) ∷ []
-grown_last lists list i item e =
-    ap (λ k. set (lists ++ list ∷ []) k (slice_index_or (lists ++ list ∷ []) k [] ++ item ∷ [])) e
-    ∙ ap (λ xs. set (lists ++ list ∷ []) (length lists) (xs ++ item ∷ [])) (last_is lists list)
-    ∙ last_set lists list (list ++ item ∷ [])

@@ -3,6 +3,7 @@ use Rattle.std.proofs.Common.{ℕ, ◌+◌, ◌<◌, ◌≡◌, List, [], ◌∷
 use Rattle.std.specs.Prelude.{ℤ, slice_get, option_map}
 use Rattle.std.proofs.lemmas.List.{length-map, take_more, drop-map}
 use Rattle.std.proofs.lemmas.Option.{get_or_from_slice_get, slice_get-map}
+use Rattle.lucy_host.proofs.Elements.{get_there}
 use Rattle.lucy_place.specs.declared.placed.PlacedNode.{PlacedNode}
 use Rattle.lucy_place.specs.Proper.{AreProper}
 use Rattle.lucy_clock.specs.declared.node_clock.NodeClock.{NodeClock}
@@ -12,7 +13,6 @@ use Rattle.lucy_net.specs.declared.net.Net.{Net}
 use Rattle.lucy_core.specs.Seen.{IsOutputOf, first_ring}
 use Rattle.lucy_kahn.specs.Spots.{main_of, results_in}
 use Rattle.lucy_kahn.specs.Sizes.{all_places}
-use Rattle.lucy_kahn.proofs.JoinedLists.{there}
 use Rattle.lucy_flat.specs.Flat.{IsFlat}
 use Rattle.lucy_results.specs.Taking.{taken_lists}
 use Rattle.lucy_results.proofs.NetLaws.{output_of}
@@ -34,7 +34,7 @@ module _ (nodes : List PlacedNode) (clocks : List NodeClock) (net : Net) (proper
   pub next_taken : (i : ℕ) → i < length (results_in (main_of nodes)) → (list : List ℤ) → ((a : ℕ) (actor : Actor) → IsOutputOf net i a actor → list ≡ s.took (first_ring actor)) →
       take i (taken_lists nodes net s) ++ list ∷ [] ≡ take (i + 1) (taken_lists nodes net s)
   next_taken i l list took =
-      let place = there (results_in (main_of nodes)) i l in
+      let place = get_there (results_in (main_of nodes)) i l in
       let of = flat.outputs i place.0 place.1 in
       let is = took (all_places nodes + i) of.actor (output_of nodes clocks proper net flat i place.0 place.1) in
       let here = mapped_at (λ (actor : Actor). s.took (first_ring actor)) (all_places nodes) net.actors i of.actor [] of.there in

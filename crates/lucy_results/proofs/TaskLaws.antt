@@ -1,12 +1,11 @@
 -- After a whole run each actor's list, also of one that gives to no ring, has what the actor's firings give.
-use Rattle.std.proofs.Common.{ℕ, suc, zero, ◌+◌, ◌*◌, ◌<◌, ◌≤◌, ◌≡◌, cond, eqb, List, [], ◌∷◌, map, length, get_or, take}
+use Rattle.std.proofs.Common.{ℕ, suc, zero, ◌+◌, ◌*◌, ◌<◌, ◌≤◌, ◌≡◌, List, [], ◌∷◌, map, length, get_or, take}
 use Rattle.std.proofs.Common.{ap, sym, refl, ◌∙◌, subst, inl, inr, arith}
-use Rattle.std.specs.Prelude.{ℤ, count_by, sum_by, Option, Some, None, slice_get, option_map}
-use Rattle.lucy_word.specs.Bits.{one_if}
-use Rattle.lucy_stream.specs.Plans.{Task, Plan, link_at, task_ops, system, machine, times, HasInput, IsOperand, IsPluggedAt}
-use Rattle.lucy_stream.specs.Plans.{IsPlugged, place_of, places_of, QuotasWithin, GiveBelow, IsRunnable}
-use Rattle.std.proofs.lemmas.Bool.{cases_Bool, cases_eq, cases_lt, eq-eqb, eqb-true}
-use Rattle.std.proofs.lemmas.List.{length-map, get_or-map, take_all}
+use Rattle.std.specs.Prelude.{ℤ, sum_by, Option, Some, slice_get, option_map}
+use Rattle.lucy_stream.specs.Plans.{Task, Plan, task_ops, system, machine, times, HasInput, IsOperand, IsPluggedAt}
+use Rattle.lucy_stream.specs.Plans.{IsPlugged, place_of, places_of, IsRunnable}
+use Rattle.std.proofs.lemmas.Bool.{cases_eq, cases_lt}
+use Rattle.std.proofs.lemmas.List.{length-map, get_or-map}
 use Rattle.std.proofs.lemmas.List.Sums.{sum_by-cons, sum_by-take-le}
 use Rattle.std.proofs.lemmas.List.Elements.{All-get_or}
 use Rattle.std.proofs.lemmas.Option.{slice_get-map}
@@ -19,21 +18,21 @@ use Rattle.lucy_stream.specs.Iterates.{lists_of, iterate}
 use Rattle.lucy_stream.specs.Firings.{gave_in, took_in}
 use Rattle.lucy_stream.proofs.FrontLaws.{IsFront-length}
 use Rattle.lucy_stream.proofs.IterateLaws.{iterate-at, iterate-fronts}
-use Rattle.lucy_results.proofs.EnoughLaws.{form_list-enough, gave_in-le}
-use Rattle.lucy_stream.specs.Systems.{RingOp, Takes, Gives, is_give, is_take, taken}
+use Rattle.lucy_results.proofs.EnoughLaws.{form_list-enough}
+use Rattle.lucy_stream.specs.Systems.{RingOp, Takes, Gives}
 use Rattle.lucy_stream.specs.Runs.{none_done, after, IsFinished, IsWhole}
 use Rattle.lucy_stream.specs.States.{Machine, State, start, events, IsState}
 use Rattle.lucy_stream.proofs.GiveCounts.{gives_in_ops}
-use Rattle.lucy_stream.proofs.TakeCounts.{takes_in_ops}
 use Rattle.lucy_stream.proofs.CountLaws.{given-none}
 use Rattle.lucy_stream.proofs.StateLaws.{IsState-start, IsState-events}
 use Rattle.lucy_stream.proofs.EventLaws.{events-done}
 use Rattle.lucy_stream.proofs.PlanLaws.{IsWired-plan, IsLocal-plan}
 use Rattle.lucy_stream.proofs.TurnLaws.{fresh, items_in, turn_law}
 use Rattle.lucy_stream.proofs.TurnCounts.{sum_to, sum_most, items_done, items_in-done}
-use Rattle.lucy_stream.proofs.CoverLaws.{once_at, gives_at, KeepsTo-plan}
+use Rattle.lucy_stream.proofs.CoverLaws.{once_at, KeepsTo-plan}
 use Rattle.lucy_stream.proofs.LeadLaws.{first_of, lead_in, lead, IsLead-plan}
-use Rattle.lucy_stream.proofs.KahnLaws.{kahn_whole}
+use Rattle.lucy_stream.proofs.KahnLaws.{kahn_whole, no_gives, fresh_take, fresh_gives, quiet_at, few_at, taken_all}
+use Rattle.lucy_net.proofs.CountLaws.{gave_le}
 
 -- a sum of which one term is 0
 sum_but : (n a most : ℕ) (f : ℕ → ℕ) → a < n → f a ≡ 0 → ((b : ℕ) → f b ≤ most) → sum_to n f + most ≤ n * most
@@ -43,19 +42,7 @@ sum_but (suc n) a most f l e h = elim (cases_eq a n) [
   | inr other ↦ omega (arith, sum_but n a most f (elim (cases_lt a n) [ inl m ↦ m | inr m ↦ absurd (other (omega arith)) ]) e h, h n)
 ]
 
--- a task that gives to no ring has no give
-no_gives : (task : Task) (k r : ℕ) → task.gives ≡ [] → k < length (task_ops (Some task)) →
-    get_or (task_ops (Some task)) k (Takes 0) ≡ Gives r → ⊥
-no_gives task k r none l op =
-    let never : times r task.gives ≡ 0 = ap (times r) none in
-    let found = gives_at task k r (omega (arith, never)) l op in
-    absurd (omega (arith, never, found.2.once))
-
 -- what is no give is none to a first ring
-no_first : (lead_of : ℕ → ℕ) (op : RingOp) → ((r : ℕ) → op ≡ Gives r → ⊥) → fresh lead_of op ≡ 0
-no_first lead_of (Takes r) h = refl
-no_first lead_of (Gives r) h = absurd (h r refl)
-
 none_first : (lead_of : ℕ → ℕ) (ops : List RingOp) → ((k r : ℕ) → k < length ops → get_or ops k (Takes 0) ≡ Gives r → ⊥) →
     sum_by (fresh lead_of) ops ≡ 0
 none_first lead_of [] h = refl
@@ -63,31 +50,8 @@ none_first lead_of (op ∷ ops) h =
     omega (
       arith,
       sum_by-cons (fresh lead_of) op ops,
-      no_first lead_of op (λ r e. h 0 r (omega arith) e),
+      fresh_take lead_of op (λ r e. h 0 r (omega arith) e),
       none_first lead_of ops (λ k r l e. h (suc k) r (omega arith) e),
-    )
-
--- gives to a first ring are gives to the one that is first for all
-one_first : (lead_of : ℕ → ℕ) (g : ℕ) (op : RingOp) → ((r : ℕ) → op ≡ Gives r → lead_of r ≡ g) → fresh lead_of op ≤ one_if (is_give g op)
-one_first lead_of g (Takes r) h = omega arith
-one_first lead_of g (Gives r) h = elim (cases_Bool (eqb (lead_of r) r)) [
-  | inl is ↦
-      let same : r ≡ g = sym (eqb-true (lead_of r) r is) ∙ h r refl in
-      omega (arith, ap one_if is, ap one_if (eq-eqb r g same))
-  | inr other ↦ omega (arith, ap one_if other)
-]
-
-all_first : (lead_of : ℕ → ℕ) (g : ℕ) (ops : List RingOp) → ((k r : ℕ) → k < length ops → get_or ops k (Takes 0) ≡ Gives r →
-    lead_of r ≡ g) →
-    sum_by (fresh lead_of) ops ≤ count_by (is_give g) ops
-all_first lead_of g [] h = omega arith
-all_first lead_of g (op ∷ ops) h =
-    omega (
-      arith,
-      sum_by-cons (fresh lead_of) op ops,
-      sum_by-cons (λ x. cond (is_give g x) 1 0) op ops,
-      all_first lead_of g ops (λ k r l e. h (suc k) r (omega arith) e),
-      one_first lead_of g op (λ r e. h 0 r (omega arith) e),
     )
 
 -- so an actor gives first at most as often as it fires
@@ -95,7 +59,7 @@ module _ (plan : Plan) (plugs : IsPlugged plan) (a : ℕ) (task : Task) (here : 
   lead_is : (k r : ℕ) → k < length (task_ops (Some task)) → get_or (task_ops (Some task)) k (Takes 0) ≡ Gives r →
       lead plan r ≡ first_of task.gives r
   lead_is k r l op =
-      let from : (link_at plan r).from ≡ a = (IsWired-plan plan plugs).giver a k r
+      let from : plan.from r ≡ a = (IsWired-plan plan plugs).giver a k r
       (subst (λ (t : Option Task). k < length (task_ops t)) (sym here) l)
       (ap (λ t. get_or (task_ops t) k (Takes 0)) here ∙ op) in
       ap (λ b. lead_in (slice_get plan.tasks b) r) from ∙ ap (λ t. lead_in t r) here
@@ -108,39 +72,13 @@ module _ (plan : Plan) (plugs : IsPlugged plan) (a : ℕ) (task : Task) (here : 
       let once : times g task.gives ≡ 1 = once_at task.gives 0 g (omega (arith, ap length e)) first (plugged.gives_once g) in
       omega (
         arith,
-        all_first (lead plan) g (task_ops (Some task)) (λ k r l op. lead_is k r l op ∙ ap (λ xs. first_of xs r) e),
+        fresh_gives (lead plan) g (task_ops (Some task)) (λ k r l op. lead_is k r l op ∙ ap (λ xs. first_of xs r) e),
         gives_in_ops task.form task.takes task.gives task.quota g once,
-        gave_in-le task.form task.quota,
+        gave_le task.form task.quota,
       )
 
   few_firsts : (n : ℕ) → sum_by (fresh (lead plan)) (take n (task_ops (Some task))) ≤ task.quota
   few_firsts n = omega (arith, sum_by-take-le (fresh (lead plan)) (task_ops (Some task)) n, few_by task.gives refl)
-
--- whether it is there or not
-few_of : (plan : Plan) (most b n : ℕ) → IsPlugged plan → QuotasWithin plan most → (task : Option Task) → slice_get plan.tasks b ≡ task →
-    sum_by (fresh (lead plan)) (take n (task_ops task)) ≤ most
-few_of plan most b n plugs within None e = omega (arith, sum_by-take-le (fresh (lead plan)) [] n)
-few_of plan most b n plugs within (Some task) e = omega (arith, few_firsts plan plugs b task e n, within b task e)
-
--- an actor that gives to no ring gives nothing first
-quiet_of : (plan : Plan) (count b k : ℕ) → GiveBelow plan count → count ≤ b → (task : Option Task) → slice_get plan.tasks b ≡ task →
-    k < length (task_ops task) →
-    fresh (lead plan) (get_or (task_ops task) k (Takes 0)) ≡ 0
-quiet_of plan count b k below c None e l = absurd (omega arith)
-quiet_of plan count b k below c (Some task) e l = no_first (lead plan) (get_or (task_ops (Some task)) k (Takes 0))
-    (λ r op. no_gives task k r (below b task e c) l op)
-
--- a whole run takes from an operand all that the firings take
-taken_all : (plan : Plan) (done : ℕ → ℕ) (r j : ℕ) (task : Task) → IsPlugged plan → IsFinished (system plan) done →
-    slice_get plan.tasks (link_at plan r).to ≡ Some task →
-    IsOperand task.takes j r → taken (system plan) done r ≡ took_in task.form task.quota j
-unfolding taken
-taken_all plan done r j task plugs finished e operand =
-    let a : ℕ = (link_at plan r).to in
-    let ops : List RingOp = task_ops (slice_get plan.tasks a) in
-    ap (λ n. count_by (is_take r) (take n ops)) (finished a) ∙ ap (count_by (is_take r)) (take_all (length ops) ops (omega arith))
-    ∙ ap (λ t. count_by (is_take r) (task_ops t)) e ∙ takes_in_ops task.form task.takes task.gives task.quota j r
-    (plugs a task e).arity operand
 
 -- an actor after a whole run
 module _ (kinds : List HostKind) (inputs : List (List ℤ)) (plan : Plan) (count most : ℕ) (order : List ℕ)
@@ -150,7 +88,7 @@ module _ (kinds : List HostKind) (inputs : List (List ℤ)) (plan : Plan) (count
   lists n = iterate kinds inputs (places_of plan) n
 
   abbrev from : ℕ → ℕ
-  from q = (link_at plan q).from
+  from q = plan.from q
 
   abbrev turns : ℕ
   turns = items_in (system plan) (lead plan) none_done order
@@ -170,8 +108,8 @@ module _ (kinds : List HostKind) (inputs : List (List ℤ)) (plan : Plan) (count
       omega (
         arith,
         items_in-done (system plan) (lead plan) none_done order count whole.run
-            (λ b k c l. quiet_of plan count b k able.give_below c (slice_get plan.tasks b) refl l),
-        sum_but count a most done low nothing (λ b. few_of plan most b (after none_done order b) able.plugged able.quotas
+            (λ b k c l. quiet_at plan count b k able.give_below c (slice_get plan.tasks b) refl l),
+        sum_but count a most done low nothing (λ b. few_at plan most b (after none_done order b) able.plugged able.quotas
             (slice_get plan.tasks b) refl),
       )
 
@@ -190,7 +128,7 @@ module _ (kinds : List HostKind) (inputs : List (List ℤ)) (plan : Plan) (count
         once =
             once_at task.takes j q within refl (plugged.takes_once q);
       } in
-      let to : (link_at plan q).to ≡ a = All-get_or (λ r. (link_at plan r).to ≡ a) task.takes j 0 within plugged.takes in
+      let to : plan.to q ≡ a = All-get_or (λ r. plan.to r ≡ a) task.takes j 0 within plugged.takes in
       let state : IsState m s = IsState-events m start order (IsWired-plan plan able.plugged)
       (IsLocal-plan kinds inputs plan able.plugged) whole.run (IsState-start m) in
       let finished : IsFinished (system plan) s.done = λ b. events-done m start order b ∙ whole.all b in
@@ -252,7 +190,7 @@ module _ (kinds : List HostKind) (inputs : List (List ℤ)) (plan : Plan) (count
   by_gives (g ∷ gives) e low = read (omega (arith, ap length e))
   by_gives [] e low = elim (cases_lt 0 most) [
     | inl some ↦ unread e low some (count * most) refl
-    | inr none ↦ omega (arith, gave_in-le task.form task.quota, able.quotas a task here)
+    | inr none ↦ omega (arith, gave_le task.form task.quota, able.quotas a task here)
   ]
 
   -- its list has what its firings give, in the iterate of one turn for each firing of each actor that may give

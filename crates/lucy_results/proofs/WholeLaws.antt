@@ -9,12 +9,13 @@ use Rattle.lucy_word.proofs.SamplingLaws.{ones_to-on}
 use Rattle.lucy_word.proofs.OnLaws.{on_some}
 use Rattle.lucy_word.proofs.ShortLaws.{same_counts}
 use Rattle.lucy_host.specs.declared.kind.HostKind.{HostKind}
+use Rattle.lucy_host.proofs.Elements.{get_there}
 use Rattle.lucy_stream.specs.Items.{list_at}
 use Rattle.lucy_stream.specs.Iterates.{iterate}
 use Rattle.lucy_stream.specs.Forms.{Same, operands}
 use Rattle.lucy_stream.specs.Firings.{gave_in, took_in}
 use Rattle.lucy_stream.specs.Runs.{IsWhole}
-use Rattle.lucy_stream.specs.Plans.{link_at, places_of}
+use Rattle.lucy_stream.specs.Plans.{places_of}
 use Rattle.lucy_place.specs.declared.placed.PlacedNode.{PlacedNode}
 use Rattle.lucy_place.specs.declared.entry.PlaceKind.{PlaceKind}
 use Rattle.lucy_place.specs.declared.entry.PlaceKind.TheVariants as place_kind
@@ -24,7 +25,7 @@ use Rattle.lucy_net.specs.declared.net.Actor.{Actor}
 use Rattle.lucy_net.specs.declared.net.Net.{Net}
 use Rattle.lucy_net.specs.Plans.{form_of, task_of, giver, plan, net_system}
 use Rattle.lucy_net.specs.Proper.{IsProperRing, IsReadWord}
-use Rattle.lucy_net.proofs.NetLaws.{task_at, plugged, write_counts, read_counts, from_here, to_here, takes_there}
+use Rattle.lucy_net.proofs.NetLaws.{task_at, planned, plugged, write_counts, read_counts, from_here, to_here, takes_there}
 use Rattle.lucy_net.proofs.BackLaws.{same_places}
 use Rattle.lucy_core.specs.Seen.{first_ring}
 use Rattle.lucy_kahn.specs.Spots.{Spot, at, main_of, node_at, kind_at, IsSpot, spot_form, results_in}
@@ -32,7 +33,6 @@ use Rattle.lucy_kahn.specs.Sizes.{all_places}
 use Rattle.lucy_kahn.specs.Numbers.{number}
 use Rattle.lucy_kahn.specs.Kahn.{kahn}
 use Rattle.lucy_kahn.specs.Horizons.{Suffice}
-use Rattle.lucy_kahn.proofs.JoinedLists.{there}
 use Rattle.lucy_kahn.proofs.Paths.{low_of, is_at}
 use Rattle.lucy_kahn.proofs.Numbered.{number_below}
 use Rattle.lucy_flat.specs.Clocked.{AreClocked}
@@ -100,7 +100,6 @@ module _ (nodes : List PlacedNode) (clocks : List NodeClock) (proper : AreProper
     actor_whole : (spot : Spot) (kind : PlaceKind) (e : kind_at nodes spot ≡ Some kind) →
         gave_in (form_of (flat.actors spot kind e).actor.kind) (ones_to (flat.actors spot kind e).actor.firing t)
         ≤ length (kahn kinds inputs nodes (t * all_places nodes) spot)
-    unfolding net_system
     actor_whole spot kind e =
         let of = flat.actors spot kind e in
         let a : ℕ = number nodes spot in
@@ -108,7 +107,8 @@ module _ (nodes : List PlacedNode) (clocks : List NodeClock) (proper : AreProper
         let all : gave_in (form_of of.actor.kind) (ones_to of.actor.firing t)
         ≤ length (list_at (iterate kinds inputs (places_of (plan net t)) n) a) =
         list_whole kinds inputs (plan net t) (all_places nodes) t order
-        (runnable nodes clocks proper net flat inputs t suffice) whole a (task_of t of.actor) (task_at net t a of.actor of.there)
+        (runnable nodes clocks proper net flat inputs t suffice) (subst (λ sys. IsWhole sys order) (sym (planned net t)) whole) a
+        (task_of t of.actor) (task_at net t a of.actor of.there)
         (number_below nodes proper spot (kind, e)) in
         let list : list_at (iterate kinds inputs (places_of (plan net t)) n) a ≡ kahn kinds inputs nodes (t * all_places nodes) spot =
         ap (λ ps. list_at (iterate kinds inputs ps n) a) (same_places net t)
@@ -141,10 +141,10 @@ module _ (nodes : List PlacedNode) (clocks : List NodeClock) (proper : AreProper
         let takes_one : 0 < length of.actor.takes = omega (arith, is_proper.arity, ap operands same) in
         let within : r < length net.rings = All-get_or (λ q. q < length net.rings) of.actor.takes 0 0 takes_one
         (takes_there net a of.actor is_proper) in
-        let ring = there net.rings r within in
+        let ring = get_there net.rings r within in
         let is_ring : IsProperRing net r ring.0 = flat.proper.rings r ring.0 ring.1 in
         let to : ring.0.to ≡ a = sym (to_here net r ring.0 ring.1)
-        ∙ All-get_or (λ q. (link_at (plan net t) q).to ≡ a) of.actor.takes 0 0 takes_one
+        ∙ All-get_or (λ q. (plan net t).to q ≡ a) of.actor.takes 0 0 takes_one
         (plugged net t flat.proper a (task_of t of.actor) (task_at net t a of.actor of.there)).takes in
         let taker : is_ring.taker ≡ of.actor = same_Some is_ring.taker of.actor
         (sym is_ring.takes_here ∙ ap (slice_get net.actors) to ∙ of.there) in

@@ -2,13 +2,14 @@
 use Rattle.std.proofs.Common.{ℕ, zero, suc, ◌+◌, ◌<◌, ◌≤◌, ◌≡◌, Bool, true, false, List, [], ◌∷◌, ◌++◌, Some, length, map, take, drop, get_or, ap, ap₂, sym, refl, ◌∙◌, subst, arith, length-drop}
 use Rattle.std.specs.Prelude.{ℤ, nat_le, nat_lt, count_by, slice_get, ◌&&◌, if◌then◌else◌}
 use Rattle.std.proofs.lemmas.Bool.{ltb-true}
-use Rattle.std.proofs.lemmas.List.{length-append, length-map, length-replicate, length-take-le, take-append-drop, take-take}
+use Rattle.std.proofs.lemmas.List.{length-append, length-map, length-replicate, length-take-le, take-append-drop, take-take, ext_get_or}
 use Rattle.std.proofs.lemmas.List.Elements.{All-get_or}
 use Rattle.std.proofs.lemmas.List.FromFn.{length-map-range_with_len, get_or-map-range_with_len}
 use Rattle.std.proofs.lemmas.List.Sums.{count_by-le-length}
 use Rattle.std.proofs.lemmas.Option.{slice_get_within}
 use Rattle.lucy_word.specs.Bits.{ones_to}
 use Rattle.lucy_host.specs.Operators.{Operator, kinds_of}
+use Rattle.lucy_host.proofs.Elements.{get_there}
 use Rattle.lucy_stream.specs.Forms.{Form, Same, operands}
 use Rattle.lucy_stream.specs.Items.{list_at}
 use Rattle.lucy_stream.proofs.FrontLaws.{IsFront-cut}
@@ -37,7 +38,6 @@ use Rattle.lucy_core.proofs.OpenLaws.{IsSound, took_front, took_all, events_lead
 use Rattle.lucy_core.proofs.OnwardLaws.{counted_on, counts_on, actors_on}
 use Rattle.lucy_kahn.specs.Spots.{main_of, results_in}
 use Rattle.lucy_kahn.specs.Sizes.{all_places}
-use Rattle.lucy_kahn.proofs.JoinedLists.{there}
 use Rattle.lucy_flat.specs.Flat.{IsFlat}
 use Rattle.lucy_results.specs.Streams.{main_stream, main_streams, taken_of}
 use Rattle.lucy_results.specs.Taking.{taken_lists, LeadToStreams, LeadAlongStreams}
@@ -72,15 +72,6 @@ pub taken_same : (actors : List Actor) (s t : State) → ((r : ℕ) → s.took r
     map (λ (actor : Actor). s.took (first_ring actor)) actors ≡ map (λ (actor : Actor). t.took (first_ring actor)) actors
 taken_same [] s t same = refl
 taken_same (actor ∷ actors) s t same = ap₂ (λ xs rest. xs ∷ rest) (same (first_ring actor)) (taken_same actors s t same)
-
--- lists of as many items that are the same
-same_items : {A : Type 0} (d : A) (xs ys : List A) → length xs ≡ length ys → ((i : ℕ) → i < length xs → get_or xs i d ≡ get_or ys i d) →
-    xs ≡ ys
-same_items d [] [] e same = refl
-same_items d [] (y ∷ ys) e same = absurd (omega arith)
-same_items d (x ∷ xs) [] e same = absurd (omega arith)
-same_items d (x ∷ xs) (y ∷ ys) e same =
-    ap₂ (λ u us. u ∷ us) (same 0 (omega arith)) (same_items d xs ys (omega arith) (λ i l. same (suc i) (omega arith)))
 
 -- where all count, as many count as are taken
 counted : (p : RingOp → Bool) (xs : List RingOp) (n : ℕ) → count_by p xs ≡ length xs → n ≤ length xs → count_by p (take n xs) ≡ n
@@ -190,9 +181,9 @@ module _ (nodes : List PlacedNode) (clocks : List NodeClock) (net : Net) (schedu
     took_lists lists e each =
         let as_many = taken_count nodes clocks net proper flat (state_of last) in
         taken_same _ (events (machine_of first) start picks) (state_of last) took_end
-        ∙ same_items [] (taken_lists nodes net (state_of last)) lists (as_many ∙ sym e)
+        ∙ ext_get_or [] (taken_lists nodes net (state_of last)) lists (as_many ∙ sym e)
         (λ i l.
-        let place = there (results_in (main_of nodes)) i (omega (arith, l, as_many)) in
+        let place = get_there (results_in (main_of nodes)) i (omega (arith, l, as_many)) in
         let of = flat.outputs i place.0 place.1 in
         mapped_at (λ (actor : Actor). (state_of last).took (first_ring actor)) (all_places nodes) net.actors i of.actor [] of.there ∙ each i place.0 place.1)
 

@@ -25,7 +25,7 @@ use Rattle.lucy_flat.specs.Clocked.{AreClocked}
 use Rattle.lucy_flat.specs.Instances.{IsSpotWord}
 use Rattle.lucy_flat.specs.Flat.{IsFlat}
 use Rattle.lucy_results.specs.Streams.{main_word, param_words, result_words, main_streams, cut_to, cut_inputs}
-use Rattle.lucy_results.specs.Running.{HasSchedule, turns_of}
+use Rattle.lucy_results.specs.Running.{HasSchedule, whole_turn}
 
 -- of the flat net of a program with a sound schedule, inputs with the items of the horizon and the operators that the program names
 -- a core can be made
@@ -50,7 +50,7 @@ abbrev pub PlacesHaveItems : Type 0
 PlacesHaveItems = (kinds : List HostKind) (inputs : List (List ℤ)) (nodes : List PlacedNode) (clocks : List NodeClock) (spot : Spot) (word : Bits) (instants : ℕ) →
     AreProper nodes → AreClocked nodes clocks → HasSchedule nodes clocks → Suffice (param_words nodes clocks) inputs instants →
     IsSpot nodes spot → IsSpotWord nodes clocks spot word →
-    ones_to word instants ≤ length (kahn kinds inputs nodes (turns_of nodes instants) spot)
+    ones_to word instants ≤ length (kahn kinds inputs nodes (whole_turn nodes instants) spot)
 
 -- each output stream has as many items as its word has ones up to the horizon
 abbrev pub StreamsAreWhole : Type 0
@@ -91,4 +91,4 @@ TwoWaysAgree = (seen : Seen) (nodes : List PlacedNode) (clocks : List NodeClock)
     slice_get (results_in (main_of nodes)) i ≡ Some place → IsOutputOf seen.net i a actor →
     take (ones_to actor.firing seen.instants) (stream_of seen (all_places nodes) (first_ring actor))
     ≡ take (ones_to (main_word nodes clocks place) seen.instants)
-    (kahn (kinds_of seen.operators) (cut_inputs nodes clocks seen.inputs seen.instants) nodes (turns_of nodes seen.instants) (at [] place))
+    (kahn (kinds_of seen.operators) (cut_inputs nodes clocks seen.inputs seen.instants) nodes (whole_turn nodes seen.instants) (at [] place))

@@ -22,17 +22,17 @@ pub record HasSchedule (nodes : List PlacedNode) (clocks : List NodeClock) : Typ
   pub sound : IsSound net events
 
 -- the number of an iterate in which the streams up to the horizon are whole
-abbrev pub turns_of : List PlacedNode → ℕ → ℕ
-turns_of nodes instants = instants * all_places nodes
+abbrev pub whole_turn : List PlacedNode → ℕ → ℕ
+whole_turn nodes instants = instants * all_places nodes
 
 -- the interpreter may not make so many turns
 abbrev pub HasManyTurns : List PlacedNode → ℕ → Type 0
-HasManyTurns nodes instants = limit_number limit.KahnTurns < turns_of nodes instants
+HasManyTurns nodes instants = limit_number limit.KahnTurns < whole_turn nodes instants
 
 -- it may make them, but from the items of the horizon some list of an iterate on the way has more items than it may have
 pub record HasManyItems (kinds : List HostKind) (inputs : List (List ℤ)) (nodes : List PlacedNode) (clocks : List NodeClock) (instants : ℕ) : Type 0 where
-  pub few : turns_of nodes instants ≤ limit_number limit.KahnTurns
-  pub passed : IsLongUpto kinds (cut_inputs nodes clocks inputs instants) nodes (turns_of nodes instants)
+  pub few : whole_turn nodes instants ≤ limit_number limit.KahnTurns
+  pub passed : IsLongUpto kinds (cut_inputs nodes clocks inputs instants) nodes (whole_turn nodes instants)
 
 -- memory ran out; or there are too many turns; or else too many items
 abbrev pub RefusesStreams : List HostKind → List (List ℤ) → List PlacedNode → List NodeClock → ℕ → KahnError → Type 0

@@ -17,11 +17,11 @@ ghost use Rattle.lucy_results.specs.Running.{HasSchedule, HasManyTurns, HasManyI
 use crate::clocks::{param_words, result_word};
 use crate::lists::add_front;
 use lucy_clock::NodeClock;
-use lucy_host::{Host, Inputs, OutOfMemory};
+use lucy_host::{Host, Inputs};
 use lucy_kahn::{KahnError, kahn, places_of};
 use lucy_place::Placed;
 use lucy_word::{Limit, Word};
-use std::alloc::Global;
+use std::alloc::{AllocError, Global};
 
 // The lists cut at the horizon, each by the word of its number.
 fn cut_inputs(
@@ -29,7 +29,7 @@ fn cut_inputs(
     words: &[Word],
     lists: &Inputs,
     instants: u64,
-) -> Result<Inputs, OutOfMemory>
+) -> Result<Inputs, AllocError>
     requires same { length words.now ≡ length lists.now }
     requires few { length words.now < 2 ^ 32 - 1 }
     ensures { IfOk result (λ cut. cut ≡ cut_to instants words.now lists.now) }
@@ -49,7 +49,7 @@ fn cut_results(
     clocks: &[NodeClock],
     lists: &Inputs,
     instants: u64,
-) -> Result<Inputs, OutOfMemory>
+) -> Result<Inputs, AllocError>
     requires clocked { AreClocked placed.now.nodes clocks.now }
     requires same { length (result_words placed.now.nodes clocks.now) ≡ length lists.now }
     requires few { length (results_in (main_of placed.now.nodes)) < 2 ^ 32 - 1 }

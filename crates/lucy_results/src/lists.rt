@@ -4,16 +4,16 @@ ghost use Rattle.lucy_word.specs.Bits.{ones_to};
 ghost use Rattle.lucy_stream.specs.Items.{list_at};
 
 use lucy_host::Inputs;
-use lucy_word::{OutOfMemory, Word};
+use lucy_word::Word;
 use std::alloc::{AllocError, Global};
 
-// One more list, under the next number. Its error is that of `Inputs`.
-fn put(
+/// One more list, under the next number.
+pub(crate) fn add(
     alloc: Global,
     lists: &mut Inputs,
     number: u32,
     list: &[i64],
-) -> Result<(), lucy_host::OutOfMemory>
+) -> Result<(), AllocError>
     requires next { number ≡ length lists.old }
     requires room { number < 2 ^ 32 - 1 }
     ensures { OnOk result (lists.new ≡ lists.old ++ list.now ∷ []) }
@@ -25,23 +25,6 @@ fn put(
     Ok(())
 }
 
-/// One more list, under the next number.
-pub(crate) fn add(
-    alloc: Global,
-    lists: &mut Inputs,
-    number: u32,
-    list: &[i64],
-) -> Result<(), OutOfMemory>
-    requires next { number ≡ length lists.old }
-    requires room { number < 2 ^ 32 - 1 }
-    ensures { OnOk result (lists.new ≡ lists.old ++ list.now ∷ []) }
-{
-    match put(alloc, lists, number, list) {
-        Ok(()) => Ok(()),
-        Err(_) => Err(OutOfMemory),
-    }
-}
-
 /// One more list, of the first items of this one: as many as the word has ones in so many instants.
 pub(crate) fn add_front(
     alloc: Global,
@@ -50,17 +33,17 @@ pub(crate) fn add_front(
     list: &[i64],
     word: &Word,
     instants: u64,
-) -> Result<(), lucy_host::OutOfMemory>
+) -> Result<(), AllocError>
     requires next { number ≡ length lists.old }
     requires room { number < 2 ^ 32 - 1 }
     ensures { OnOk result (lists.new ≡ lists.old ++ take (ones_to word.now instants) list.now ∷ []) }
 {
     let count = word.ones(instants).min(list.len() as u64);
-    put(alloc, lists, number, &list[..count as usize])
+    add(alloc, lists, number, &list[..count as usize])
 }
 
 /// The same lists, of which there are so many, in other memory.
-pub fn copy_lists(alloc: Global, lists: &Inputs, count: usize) -> Result<Inputs, OutOfMemory>
+pub fn copy_lists(alloc: Global, lists: &Inputs, count: usize) -> Result<Inputs, AllocError>
     requires lists { length lists.now ≡ count }
     requires few { count < 2 ^ 32 - 1 }
     ensures { IfOk result (λ copies. copies ≡ lists.now) }

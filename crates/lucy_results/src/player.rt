@@ -8,9 +8,8 @@ use lucy_host::{Host, Inputs};
 use lucy_net::{Net, Schedule};
 use lucy_place::Placed;
 use lucy_runner::Runner;
-use lucy_word::OutOfMemory;
 use lucy_worker::Gate;
-use std::alloc::Global;
+use std::alloc::{AllocError, Global};
 use std::marker::Model;
 use std::thread::Threads;
 
@@ -63,7 +62,7 @@ impl<'a> Player<'a> {
         inputs: Inputs,
         instants: u64,
         workers: u32,
-    ) -> Result<Player<'a>, OutOfMemory>
+    ) -> Result<Player<'a>, AllocError>
         requires flat { IsFlat placed.now.nodes clocks.now net }
         requires sound { IsSound net (events_at schedule) }
         requires serves { Serves F.pre F.post host.now }
@@ -97,7 +96,7 @@ impl<'a> Player<'a> {
         gate: &G,
         added: &Inputs,
         instants: u64,
-    ) -> Result<(), OutOfMemory>
+    ) -> Result<(), AllocError>
         requires serves { Serves F.pre F.post host.now }
         requires kinds { kinds_of (lent host.now) ≡ self.old.kinds }
         requires later { self.old.instants ≤ instants }
@@ -115,7 +114,7 @@ impl<'a> Player<'a> {
     }
 
     /// What the output streams have past the horizon before: a list for each result of main, in order.
-    pub fn outputs(&self, alloc: Global) -> Result<Inputs, OutOfMemory>
+    pub fn outputs(&self, alloc: Global) -> Result<Inputs, AllocError>
         ensures { IfOk result (λ lists. lists ≡ later_streams self.now.kinds self.now.inputs self.now.nodes self.now.clocks self.now.before self.now.instants) }
     {
         outputs(alloc, self.placed, self.clocks, &self.runner)

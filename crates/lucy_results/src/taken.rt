@@ -10,8 +10,7 @@ use lucy_clock::NodeClock;
 use lucy_core::Core;
 use lucy_host::Inputs;
 use lucy_place::Placed;
-use lucy_word::OutOfMemory;
-use std::alloc::Global;
+use std::alloc::{AllocError, Global};
 
 /// What the outputs of a core of a program's flat net took so far, whether it is finished or not: a list for each result of main, in
 /// order.
@@ -20,7 +19,7 @@ pub fn outputs_so_far(
     placed: &Placed,
     clocks: &[NodeClock],
     core: &Core,
-) -> Result<Inputs, OutOfMemory>
+) -> Result<Inputs, AllocError>
     requires { IsFlat placed.now.nodes clocks.now core.now.net }
     ensures taken { IfOk result (λ lists. lists ≡ taken_lists placed.now.nodes core.now.net (state_of core.now)) }
     ensures count { IfOk result (λ lists. length lists ≡ length (results_in (main_of placed.now.nodes))) }

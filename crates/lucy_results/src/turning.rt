@@ -26,8 +26,7 @@ use lucy_host::{Inputs, Ops};
 use lucy_net::{Net, Schedule};
 use lucy_place::Placed;
 use lucy_runner::{Runner, Seat};
-use lucy_word::OutOfMemory;
-use std::alloc::Global;
+use std::alloc::{AllocError, Global};
 
 // A runner, by so many workers, of a core of a program's flat net without an event so far, once its turns were made.
 fn turn_core<T: FnOnce(&mut [Seat])>(
@@ -38,7 +37,7 @@ fn turn_core<T: FnOnce(&mut [Seat])>(
     workers: u32,
     homes: &[u32],
     turns: T,
-) -> Result<Runner, OutOfMemory>
+) -> Result<Runner, AllocError>
     requires flat { IsFlat placed.now.nodes clocks.now core.net }
     requires unbegun { IsUnbegun core }
     requires workers { (1 ≤ workers) × (workers ≤ most_workers) }
@@ -80,7 +79,7 @@ pub fn run_net_by_turns<T: FnOnce(&mut [Seat])>(
     instants: u64,
     workers: u32,
     turns: T,
-) -> Result<Inputs, OutOfMemory>
+) -> Result<Inputs, AllocError>
     requires flat { IsFlat placed.now.nodes clocks.now net }
     requires sound { IsSound net (events_at schedule) }
     requires known { HaveOperators (length ops.now) placed.now.nodes }

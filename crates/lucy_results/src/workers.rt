@@ -17,7 +17,6 @@ use lucy_core::Core;
 use lucy_host::{Host, Inputs};
 use lucy_place::Placed;
 use lucy_runner::Runner;
-use lucy_word::OutOfMemory;
 use lucy_worker::Gate;
 use std::alloc::{AllocError, Global};
 use std::thread::Threads;
@@ -29,7 +28,7 @@ pub(crate) fn outputs(
     placed: &Placed,
     clocks: &[NodeClock],
     runner: &Runner,
-) -> Result<Inputs, OutOfMemory>
+) -> Result<Inputs, AllocError>
     requires flat { IsFlat placed.now.nodes clocks.now runner.now.seen.net }
     requires over { IsOver runner.now.seen }
     ensures { IfOk result (λ lists. lists ≡ later_streams (kinds_of runner.now.seen.operators) runner.now.seen.inputs placed.now.nodes clocks.now runner.now.before runner.now.seen.instants) }
@@ -67,7 +66,7 @@ pub(crate) fn run_core<R: Threads + Sync, F: Fn(u32, i64, i64) -> i64 + Sync, G:
     gate: &G,
     workers: u32,
     homes: &[u32],
-) -> Result<Runner, OutOfMemory>
+) -> Result<Runner, AllocError>
     requires flat { IsFlat placed.now.nodes clocks.now core.net }
     requires serves { Serves F.pre F.post host.now }
     requires kinds { kinds_of (lent host.now) ≡ kinds_of core.operators }

@@ -1,19 +1,21 @@
 -- A program stands for one thing whose clocks are chosen so.
-use Rattle.std.proofs.Common.{ℕ, zero, suc, ◌+◌, ◌-◌, ◌<◌, ◌≡◌, ◌⊎◌, Bool, true, false, List, [], ◌∷◌, length, take, Some, slice_get, refl, ap, sym, ◌∙◌, subst, inl, inr, arith}
+use Rattle.std.proofs.Common.{ℕ, zero, suc, ◌+◌, ◌-◌, ◌<◌, ◌≡◌, ◌⊎◌, List, [], ◌∷◌, length, take, Some, slice_get, refl, ap, sym, ◌∙◌, subst, inl, inr, arith}
 use Rattle.std.specs.List.{AllByRecursion}
 use Rattle.std.proofs.lemmas.List.{length-take-le}
 use Rattle.std.proofs.lemmas.Option.{slice_get_within}
 use Rattle.lucy_word.specs.Bits.{Bits, bit_at, one_if, ones_to, IsWord}
 use Rattle.lucy_word.specs.Adaptable.{IsSize}
 use Rattle.lucy_word.specs.Shortest.{Same, IsShortest}
-use Rattle.lucy_word.proofs.BitsLaws.{ones_to-more, period_some}
+use Rattle.lucy_word.proofs.BitsLaws.{ones_to-more, period_some, same_bit}
 use Rattle.lucy_word.proofs.ShortLaws.{shortest_one}
+use Rattle.lucy_word.proofs.Lists.{same_entries}
+use Rattle.lucy_host.proofs.Elements.{get_there}
 use Rattle.lucy_place.specs.declared.placed.PlacedNode.{PlacedNode}
 use Rattle.lucy_place.specs.Proper.{IsProperNode, AreProper}
 use Rattle.lucy_place.specs.WrittenNodes.{IsWritten}
 use Rattle.lucy_types.specs.declared.ty.Ty.{Ty}
 use Rattle.lucy_types.specs.Programs.{IsTyped}
-use Rattle.lucy_types.proofs.ListLaws.{all_at, get_there, taken}
+use Rattle.lucy_types.proofs.ListLaws.{all_at, taken}
 use Rattle.lucy_types.proofs.ProgramLaws.{typed_unique}
 use Rattle.lucy_need.specs.Meeting.{AreWordsIn, Agree, assigned}
 use Rattle.lucy_clock.specs.declared.signature.Signature.{Signature}
@@ -36,12 +38,6 @@ use Rattle.lucy_right.specs.Chosen.{ChosenAreOne}
 use Rattle.lucy_right.proofs.ClockLaws.{signatures_same}
 
 -- words whose ones stand at the same instants are the same
-one_bit : (x y : Bool) → one_if x ≡ one_if y → x ≡ y
-one_bit true true h = refl
-one_bit true false h = absurd (omega arith)
-one_bit false true h = absurd (omega arith)
-one_bit false false h = refl
-
 same_places : (v w : Bits) → IsWord v → IsWord w → ((k : ℕ) → index_of v k ≡ index_of w k) → Same v w
 same_places v w is_v is_w places i some =
     let up = counts (ones_to v) (index_of v) (ones_to w) (index_of w) (word_index v is_v) (word_index w is_w) (λ k. omega (arith, places k)) in
@@ -49,7 +45,7 @@ same_places v w is_v is_w places i some =
     let here : i - 1 + 1 ≡ i = omega arith in
     let bit : one_if (bit_at v (i - 1 + 1)) ≡ one_if (bit_at w (i - 1 + 1)) =
     omega (arith, ones_to-more v (i - 1), ones_to-more w (i - 1), up (i - 1), down (i - 1), up (i - 1 + 1), down (i - 1 + 1)) in
-    subst (λ k. bit_at v k ≡ bit_at w k) here (one_bit (bit_at v (i - 1 + 1)) (bit_at w (i - 1 + 1)) bit)
+    subst (λ k. bit_at v k ≡ bit_at w k) here (same_bit (bit_at v (i - 1 + 1)) (bit_at w (i - 1 + 1)) bit)
 
 -- words in shortest form that agree are those
 words_one : (xs ys : List Bits) → length xs ≡ length ys → AllByRecursion IsShortest xs → AllByRecursion IsShortest ys → AreWordsIn (assigned xs) (length xs) → AreWordsIn (assigned ys) (length ys) →
@@ -61,13 +57,6 @@ words_one (u ∷ xs) (v ∷ ys) count short other is also agree =
     let first : u ≡ v = shortest_one u v short.0 other.0 (period_some u (is 0 (omega arith))) (period_some v (also 0 (omega arith))) (agree 0 (omega arith)) in
     let rest : xs ≡ ys = words_one xs ys (omega (arith, count)) short.1 other.1 (λ c l. is (suc c) (omega (arith, l))) (λ c l. also (suc c) (omega (arith, l))) (λ c l. agree (suc c) (omega (arith, l))) in
     ap (λ w. w ∷ xs) first ∙ ap (λ ws. v ∷ ws) rest
-
--- lists of one length with the same entries are one
-lists_one : {A : Type 0} (xs ys : List A) → length xs ≡ length ys → ((i : ℕ) (x y : A) → slice_get xs i ≡ Some x → slice_get ys i ≡ Some y → x ≡ y) → xs ≡ ys
-lists_one [] [] count each = refl
-lists_one [] (y ∷ ys) count each = absurd (omega (arith, count))
-lists_one (x ∷ xs) [] count each = absurd (omega (arith, count))
-lists_one (x ∷ xs) (y ∷ ys) count each = ap (λ z. z ∷ xs) (each 0 x y refl refl) ∙ ap (λ zs. y ∷ zs) (lists_one xs ys (omega (arith, count)) (λ i. each (suc i)))
 
 clock_same : (c d : NodeClock) → c.words ≡ d.words → c.sizes ≡ d.sizes → c ≡ d
 clock_same c d words sizes = let it : List Bits → List ℕ → NodeClock = λ w s. record { words = w; sizes = s } in ap (λ w. it w c.sizes) words ∙ ap (it d.words) sizes
@@ -85,7 +74,7 @@ pub record Laws : Type 0 where
 
 -- buffers between the same words have the same sizes
 sizes_same : (nodes : List PlacedNode) (n : PlacedNode) (c d : NodeClock) → IsProperNode nodes n → c.words ≡ d.words → AreSizes n c → AreSizes n d → c.sizes ≡ d.sizes
-sizes_same nodes n c d proper words a b = lists_one c.sizes d.sizes (a.count ∙ sym b.count) each
+sizes_same nodes n c d proper words a b = same_entries c.sizes d.sizes (a.count ∙ sym b.count) each
   where
     each : (i s t : ℕ) → slice_get c.sizes i ≡ Some s → slice_get d.sizes i ≡ Some t → s ≡ t
     each i s t x y =
@@ -139,7 +128,7 @@ module _ (laws : Laws) (scale lead : ℕ) where
         let n = get_there nodes j (omega (arith, slice_get_within cs j c of, is.count)) in node_words j (λ h less. below k h (omega (arith, l, less))) n.0 c d n.1 of its
 
     clocks_one : cs ≡ ds
-    clocks_one = lists_one cs ds (is.count ∙ sym also.count) each
+    clocks_one = same_entries cs ds (is.count ∙ sym also.count) each
       where
         each : (j : ℕ) (c d : NodeClock) → slice_get cs j ≡ Some c → slice_get ds j ≡ Some d → c ≡ d
         each j c d of its =

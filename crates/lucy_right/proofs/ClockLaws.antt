@@ -8,10 +8,11 @@ use Rattle.lucy_word.specs.Shortest.{IsShortest}
 use Rattle.lucy_word.specs.Stored.{IsStored}
 use Rattle.lucy_word.proofs.BitsLaws.{period_some}
 use Rattle.lucy_word.proofs.ShortLaws.{shortest_one}
+use Rattle.lucy_host.proofs.Elements.{get_there}
 use Rattle.lucy_place.specs.declared.placed.PlacedNode.{PlacedNode}
 use Rattle.lucy_place.specs.Proper.{IsProperNode, AreProper}
 use Rattle.lucy_place.specs.WrittenNodes.{IsWritten}
-use Rattle.lucy_types.proofs.ListLaws.{all_at, get_there, taken}
+use Rattle.lucy_types.proofs.ListLaws.{all_at, taken}
 use Rattle.lucy_need.specs.Meeting.{AreWordsIn, Agree, MeetsAll, assigned}
 use Rattle.lucy_clock.specs.declared.signature.Signature.{Signature}
 use Rattle.lucy_clock.specs.declared.node_clock.NodeClock.{NodeClock}

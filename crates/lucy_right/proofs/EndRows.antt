@@ -7,7 +7,7 @@ use Rattle.std.specs.Str.Lines.{lines}
 use Rattle.std.specs.Str.Parse.{signed_digits_value}
 use Rattle.std.proofs.lemmas.Bool.{cases_lt}
 use Rattle.std.proofs.lemmas.List.{take_all}
-use Rattle.std.proofs.lemmas.Option.{same_Some}
+use Rattle.std.proofs.lemmas.Option.{same_Some, none-some}
 use Rattle.lucy_word.specs.Bits.{bit_at, ones_to}
 use Rattle.lucy_word.proofs.BitsLaws.{ones_to-none}
 use Rattle.lucy_word.proofs.IndexLaws.{ones_to-rises}
@@ -17,14 +17,14 @@ use Rattle.lucy_host.specs.Operators.{Operator, kinds_of}
 use Rattle.lucy_stream.specs.Items.{list_at}
 use Rattle.lucy_lines.specs.declared.input.InputSpec.{InputSpec}
 use Rattle.lucy_lines.specs.declared.output.OutputSpec.{OutputSpec}
-use Rattle.lucy_lines.specs.Fields.{fields}
+use Rattle.lucy_lines.specs.Fields.{line_fields}
 use Rattle.lucy_lines.specs.Values.{SpellsValue}
 use Rattle.lucy_lines.specs.Kinds.{stream_named}
 use Rattle.lucy_lines.specs.Cuts.{ItemOf}
 use Rattle.lucy_lines.specs.Feeding.{values_by_stream}
 use Rattle.lucy_lines.specs.Outputs.{instant_text, output_text}
 use Rattle.lucy_tree.specs.View.{ProgramTree}
-use Rattle.lucy_types.proofs.ListLaws.{none_some, taken}
+use Rattle.lucy_types.proofs.ListLaws.{taken}
 use Rattle.lucy_kahn.specs.Spots.{at, main_of, results_in}
 use Rattle.lucy_kahn.specs.Horizons.{Suffice, IsHorizon}
 use Rattle.lucy_results.specs.Streams.{param_words}
@@ -62,7 +62,7 @@ printings = (refl, refl, refl)
 abbrev pub said : ℤ → ItemOf
 said v = record { stream = 0; value = v }
 
-says_one : (line spelled : List ℕ) (v : ℤ) (item : ItemOf) → fields line ≡ codes "x" ∷ spelled ∷ [] → signed_digits_value 10 spelled ≡ v → LineSays (x_input ∷ []) line item → item ≡ said v
+says_one : (line spelled : List ℕ) (v : ℤ) (item : ItemOf) → line_fields line ≡ codes "x" ∷ spelled ∷ [] → signed_digits_value 10 spelled ≡ v → LineSays (x_input ∷ []) line item → item ≡ said v
 says_one line spelled v item split value (name, bytes, spec, parts, named, spells) =
     let both : codes "x" ∷ spelled ∷ [] ≡ name ∷ bytes ∷ [] = sym split ∙ parts in
     let name_is : codes "x" ≡ name = cc both in
@@ -73,13 +73,13 @@ says_one line spelled v item split value (name, bytes, spec, parts, named, spell
     let value_is : item.value ≡ v = spelt.2 ∙ ap (signed_digits_value 10) (sym bytes_is) ∙ value in
     ap (λ s. let r : ItemOf = record { stream = s; value = item.value } in r) (sym stream) ∙ ap (λ v. said v) value_is
 
-says_first : (line spelled : List ℕ) (v : ℤ) (rest : List (List ℕ)) (items : List ItemOf) → fields line ≡ codes "x" ∷ spelled ∷ [] → signed_digits_value 10 spelled ≡ v →
+says_first : (line spelled : List ℕ) (v : ℤ) (rest : List (List ℕ)) (items : List ItemOf) → line_fields line ≡ codes "x" ∷ spelled ∷ [] → signed_digits_value 10 spelled ≡ v →
     LinesSay (x_input ∷ []) (line ∷ rest) items → (more : List ItemOf) × LinesSay (x_input ∷ []) rest more × (items ≡ said v ∷ more)
 says_first line spelled v rest items split value (short, inl (blank, say)) = let bad : codes "x" ∷ spelled ∷ [] ≡ [] = sym split ∙ blank in absurd (cc bad)
 says_first line spelled v rest items split value (short, inr (item, more, says, say, is)) = (more, say, is ∙ ap (λ i. i ∷ more) (says_one line spelled v item split value says))
 
-pub splits : (fields (codes "x 12") ≡ codes "x" ∷ codes "12" ∷ []) × (fields (codes "x 3") ≡ codes "x" ∷ codes "3" ∷ [])
-unfolding fields
+pub splits : (line_fields (codes "x 12") ≡ codes "x" ∷ codes "12" ∷ []) × (line_fields (codes "x 3") ≡ codes "x" ∷ codes "3" ∷ [])
+unfolding line_fields
 splits = (refl, refl)
 
 -- so the first lines say none, one, or both
@@ -97,7 +97,7 @@ items_of (suc (suc n)) items say =
 -- the horizon of these values, and the stream of y
 pub suffices : (inputs : List (List ℤ)) (end : ℕ) → ones_to odd end ≤ length (list_at inputs 0) → Suffice (odd ∷ []) inputs end
 suffices inputs end enough zero word e = subst (λ w. ones_to w end ≤ length (list_at inputs 0)) (same_Some odd word e) enough
-suffices inputs end enough (suc i) word e = absurd (none_some word e)
+suffices inputs end enough (suc i) word e = absurd (none-some word e)
 
 horizon_is : (inputs : List (List ℤ)) (most horizon end : ℕ) → ones_to odd end ≤ length (list_at inputs 0) → length (list_at inputs 0) < ones_to odd (suc end) → end ≤ most →
     IsHorizon (odd ∷ []) inputs most horizon → horizon ≡ end
@@ -160,7 +160,7 @@ module _ (Reads : List ℕ → ProgramTree → Type 0) (Chosen : Meaning → Typ
     -- by it each byte of the output is due, and with 0 all that is due is there
     begun : (output : List ℕ) (status : ℕ) → IsRight output status → (place byte : ℕ) → slice_get output place ≡ Some byte → slice_get due place ≡ Some byte
     begun output status is place byte at = elim (is.right text input output refl refl refl refl) [
-      | inl h ↦ absurd (none_some byte (ap (λ o. slice_get o place) (sym h.0) ∙ at))
+      | inl h ↦ absurd (none-some byte (ap (λ o. slice_get o place) (sym h.0) ∙ at))
       | inr h ↦
           let front = whole_front Chosen ops most far h.2 (status ≡ 0) (status ≡ 3) h.0 (one h.0 h.3) h.4 in
           let printed_there : slice_get h.2 place ≡ Some byte = (taken h.1 h.2 place byte (ap (λ o. slice_get o place) (sym h.5) ∙ at)).1 in

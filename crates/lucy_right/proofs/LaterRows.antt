@@ -3,7 +3,7 @@ use Rattle.std.proofs.Common.{ℕ, zero, suc, ◌+◌, ◌*◌, ◌<◌, ◌≤�
 use Rattle.std.specs.Prelude.{codes, slice_index_or}
 use Rattle.std.specs.List.{AllByRecursion}
 use Rattle.std.proofs.lemmas.List.{ext_get_or}
-use Rattle.std.proofs.lemmas.Option.{same_Some, slice_get-get_or}
+use Rattle.std.proofs.lemmas.Option.{same_Some, slice_get-get_or, none-some}
 use Rattle.lucy_word.specs.Bits.{Bits, IsWord, bit_at, ones_to}
 use Rattle.lucy_word.specs.Adaptable.{IsSize}
 use Rattle.lucy_word.specs.Always.{always}
@@ -29,7 +29,7 @@ use Rattle.lucy_types.specs.Rules.{IsRule}
 use Rattle.lucy_types.specs.Typing.{Typing, MeetsRule, IsTyping, SaysType, AreTypes, as_ty}
 use Rattle.lucy_types.specs.Gathered.{own_rules}
 use Rattle.lucy_types.specs.Programs.{IsTyped}
-use Rattle.lucy_types.proofs.ListLaws.{none_some, contains_head, all_at}
+use Rattle.lucy_types.proofs.ListLaws.{contains_head, all_at}
 use Rattle.lucy_types.proofs.RuleLaws.{all_contains, own_complete}
 use Rattle.lucy_types.proofs.ProgramLaws.{typed_unique}
 use Rattle.lucy_need.specs.Meeting.{assigned}
@@ -88,7 +88,7 @@ meaning = record { nodes = node ∷ []; types = types ∷ []; clocks = clock ∷
 -- what holds of the one element of a list
 pub only : {A : Type 0} (P : ℕ → A → Type 0) (x : A) → P 0 x → (i : ℕ) (y : A) → slice_get (x ∷ []) i ≡ Some y → P i y
 only P x h zero y e = subst (P 0) (same_Some x y e) h
-only P x h (suc i) y e = absurd (none_some y e)
+only P x h (suc i) y e = absurd (none-some y e)
 
 -- its nodes
 nodes_alone : (ops : List Operator) (nodes : List PlacedNode) → AreNodesOf ops (later ∷ []) nodes → nodes ≡ node ∷ []
@@ -105,14 +105,14 @@ ints a meets =
 
 ints_meet : IsTyping (IsRule [] [] node) (λ p. Int)
 ints_meet rule (inl r) = all_contains (MeetsRule (λ p. Int)) (own_rules 1 node.places) rule (refl, (refl, (refl, tt))) (own_complete node rule r)
-ints_meet rule (inr r) = absurd (none_some r.callee r.called)
+ints_meet rule (inr r) = absurd (none-some r.callee r.called)
 
 int_at : (p : ℕ) (u : Ty) → at_one types p ≡ Some u → (u ≡ ty.Int) × SaysType (IsRule [] [] node) p Int
-int_at zero u e = absurd (none_some u e)
+int_at zero u e = absurd (none-some u e)
 int_at (suc zero) u e = (cc, λ a m. (ints a m).0)
 int_at (suc (suc zero)) u e = (cc, λ a m. (ints a m).1)
 int_at (suc (suc (suc zero))) u e = (cc, λ a m. (ints a m).2)
-int_at (suc (suc (suc (suc p)))) u e = absurd (none_some u e)
+int_at (suc (suc (suc (suc p)))) u e = absurd (none-some u e)
 
 int_told : (p : ℕ) (t : DataType) → at_one types p ≡ Some (as_ty t) → SaysType (IsRule [] [] node) p t
 int_told p Int e = (int_at p ty.Int e).1

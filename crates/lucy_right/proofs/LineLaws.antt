@@ -11,7 +11,7 @@ use Rattle.lucy_lines.specs.declared.input.InputSpec.{InputSpec}
 use Rattle.lucy_lines.specs.declared.reader.TextFault.{TextFault}
 use Rattle.lucy_lines.specs.declared.reader.TextFault.TheVariants.{BadLine, TooLong}
 use Rattle.lucy_lines.specs.Fronts.{most_bytes, longest_line, run, reach, judge, content_of, front_of}
-use Rattle.lucy_lines.specs.Fields.{fields}
+use Rattle.lucy_lines.specs.Fields.{line_fields}
 use Rattle.lucy_lines.specs.Kinds.{FieldsSay, PairSays, IsKind}
 use Rattle.lucy_lines.specs.Cuts.{Held, past, with_more, ItemOf, refusal, Stop, At, Before, Cut, blank, item, refused, long, too_long, undecided}
 use Rattle.lucy_lines.proofs.FrontLaws.{run_more, reach_range, content_within, front_more, WithinBytes, line_within}
@@ -331,7 +331,7 @@ refused_fields inputs [] k n f h r = let bad : refusal n k ≡ None = ap (refusa
 refused_fields inputs (a ∷ fs) k n f h r = λ e. cc e
 
 -- what follows where a line says what two fields say, follows of them
-by_fields : (R : Type 0) (inputs : List InputSpec) (line name spelled : List ℕ) (k : _) → (IsKind inputs line k → R) → fields line ≡ name ∷ spelled ∷ [] → PairSays inputs name spelled k → R
+by_fields : (R : Type 0) (inputs : List InputSpec) (line name spelled : List ℕ) (k : _) → (IsKind inputs line k → R) → line_fields line ≡ name ∷ spelled ∷ [] → PairSays inputs name spelled k → R
 by_fields R inputs line name spelled k step split pair = step (subst (λ fs. FieldsSay inputs fs k) (sym split) pair)
 
 -- and a line that is refused says no item, since its bytes have one cut
@@ -379,19 +379,19 @@ module _ (input : InputSpec) (others : List InputSpec) (closed : Bool) where
   pub cut_lines : {h : Held} {items : List ItemOf} {stop : Stop} → Cut inputs closed h items stop → (more : List ℕ) → (closed ≡ true → more ≡ []) → Lined inputs closed h more items stop
   cut_lines {h = h} {stop = stop} (blank {content = c} {length = n} {items = items} e said cut) more shut =
       let rest : Lined inputs closed (past h n) more items stop = cut_lines cut more shut in
-      let none : fields (take c h.rest) ≡ [] = elim (told_fields inputs (fields (take c h.rest)) _ said refl) [ inl f ↦ f.0 | inr (name, spelled, f, pair) ↦ absurd pair ] in
+      let none : line_fields (take c h.rest) ≡ [] = elim (told_fields inputs (line_fields (take c h.rest)) _ said refl) [ inl f ↦ f.0 | inr (name, spelled, f, pair) ↦ absurd pair ] in
       let first = line_first closed h.used h.rest c n e tt in
       behind_line h more (take c h.rest) n items items stop (first_lines closed h.rest more c n first shut) rest (first_short closed h.rest c n first, inl (none, rest.say))
   cut_lines {h = h} {stop = stop} (item {content = c} {length = n} {stream = number} {value = value} {items = items} e said cut) more shut =
       let rest : Lined inputs closed (past h n) more items stop = cut_lines cut more shut in
       let it : ItemOf = record { stream = number; value = value } in
       let says : LineSays inputs (take c h.rest) it =
-      elim (told_fields inputs (fields (take c h.rest)) _ said refl) [ inl f ↦ absurd (cc f.1) | inr (name, spelled, f, pair) ↦ (name, spelled, pair.0, f, pair.1, pair.2) ] in
+      elim (told_fields inputs (line_fields (take c h.rest)) _ said refl) [ inl f ↦ absurd (cc f.1) | inr (name, spelled, f, pair) ↦ (name, spelled, pair.0, f, pair.1, pair.2) ] in
       let first = line_first closed h.used h.rest c n e tt in
       behind_line h more (take c h.rest) n items (it ∷ items) stop (first_lines closed h.rest more c n first shut) rest (first_short closed h.rest c n first, inr (it, items, says, rest.say, refl))
   cut_lines {h = h} (refused {content = c} {length = n} {f = f} k e is r) more shut =
       stopped_line h more (take c h.rest) (lines (drop n h.rest ++ more)) f (first_lines closed h.rest more c n (line_first closed h.used h.rest c n e tt) shut)
-      (λ none. cc none, inr (refused_fields inputs (fields (take c h.rest)) k (h.lines + 1) f is r, unsaid inputs closed h c n k f e tt is r))
+      (λ none. cc none, inr (refused_fields inputs (line_fields (take c h.rest)) k (h.lines + 1) f is r, unsaid inputs closed h c n k f e tt is r))
   cut_lines {h = h} (long e) more shut =
       let it = long_line (h.rest ++ more) (long_more inputs closed h more e tt shut) in
       stopped_line h more it.line it.others (BadLine (h.lines + 1)) it.is (λ none. cc none, inl it.far)

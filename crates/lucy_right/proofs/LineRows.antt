@@ -4,7 +4,7 @@ use Rattle.std.specs.Prelude.{codes, pos, negsuc}
 use Rattle.std.specs.Str.Lines.{lines}
 use Rattle.lucy_host.specs.declared.data_type.DataType.TheVariants.{Int}
 use Rattle.lucy_lines.specs.declared.input.InputSpec.{InputSpec}
-use Rattle.lucy_lines.specs.Fields.{fields}
+use Rattle.lucy_lines.specs.Fields.{line_fields}
 use Rattle.lucy_lines.specs.Kinds.{stream_named}
 use Rattle.lucy_lines.specs.Cuts.{ItemOf}
 use Rattle.lucy_right.specs.Right.{LineSays, LineFails, LinesSay}
@@ -19,16 +19,16 @@ abbrev minus_two : ItemOf
 minus_two = record { stream = 0; value = negsuc 1 }
 
 first_says : LineSays (x_input ∷ []) (codes "x 1") one
-unfolding fields
+unfolding line_fields
 first_says = (codes "x", codes "1", x_input, refl, record { found = refl; there = refl }, (((omega arith, (omega arith, tt)), record { sfits = omega arith }, refl)))
 
 last_says : LineSays (x_input ∷ []) (codes " x\t-2 ") minus_two
-unfolding fields
+unfolding line_fields
 last_says = (codes "x", codes "-2", x_input, refl, record { found = refl; there = refl }, (((omega arith, (omega arith, tt)), record { sfits = omega arith }, refl)))
 
 -- three lines, of which one is empty and the last lacks its end, say two items
 three_lines : LinesSay (x_input ∷ []) (lines (codes "x 1\r\n\n x\t-2 ")) (one ∷ minus_two ∷ [])
-unfolding fields
+unfolding line_fields
 three_lines = (omega arith, inr (one, minus_two ∷ [], first_says, (omega arith, inl (refl, (omega arith, inr (minus_two, [], last_says, refl, refl)))), refl))
 
 -- where main has no inputs they say none
@@ -37,7 +37,7 @@ no_inputs = refl
 
 -- a name that no input has, and a name alone, are refused
 unknown_fails : LineFails (x_input ∷ []) (codes "y 1")
-unfolding fields
+unfolding line_fields
 unknown_fails = (
   λ none. cc none,
   inr (
@@ -51,7 +51,7 @@ unknown_fails = (
 )
 
 name_fails : LineFails (x_input ∷ []) (codes "x")
-unfolding fields
+unfolding line_fields
 name_fails = (
   λ none. cc none,
   inr (

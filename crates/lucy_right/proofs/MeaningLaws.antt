@@ -6,6 +6,7 @@ use Rattle.std.proofs.lemmas.Option.{slice_get_within}
 use Rattle.lucy_word.specs.Bits.{Bits}
 use Rattle.lucy_word.specs.Shortest.{IsShortest}
 use Rattle.lucy_word.specs.Stored.{IsStored}
+use Rattle.lucy_host.proofs.Elements.{get_there}
 use Rattle.lucy_place.specs.declared.placed.PlacedNode.{PlacedNode}
 use Rattle.lucy_place.specs.WrittenNodes.{IsWritten}
 use Rattle.lucy_clock.specs.declared.signature.Signature.{Signature}
@@ -35,16 +36,11 @@ each_of : {A : Type 0} (P : A → Type 0) (xs : List A) → ((i : ℕ) (x : A) �
 each_of P [] h = tt
 each_of P (x ∷ xs) h = (h zero x refl, each_of P xs (λ i y e. h (suc i) y e))
 
-at_place : {A : Type 0} (xs : List A) (i : ℕ) → i < length xs → (x : A) × (slice_get xs i ≡ Some x)
-at_place [] i h = absurd (omega arith)
-at_place (x ∷ xs) zero h = (x, refl)
-at_place (x ∷ xs) (suc i) h = at_place xs i (omega (arith, h))
-
 module _ (o : Options) (nodes : List PlacedNode) (clocks : List NodeClock) (are : AreClocksOf o nodes clocks) where
   clock_shortest : (i : ℕ) (c : NodeClock) → slice_get clocks i ≡ Some c → AllByRecursion IsShortest c.words
   clock_shortest i c e =
       let within : i < length clocks = slice_get_within clocks i c e in
-      let node = at_place nodes i (omega (arith, within, are.all)) in node_shortest o (signatures (take i nodes) (take i clocks)) node.0 c (are.each i node.0 c node.1 e)
+      let node = get_there nodes i (omega (arith, within, are.all)) in node_shortest o (signatures (take i nodes) (take i clocks)) node.0 c (are.each i node.0 c node.1 e)
 
   pub clocks_shortest : AllByRecursion (λ (c : NodeClock). AllByRecursion IsShortest c.words) clocks
   clocks_shortest = each_of (λ (c : NodeClock). AllByRecursion IsShortest c.words) clocks clock_shortest
@@ -54,7 +50,7 @@ module _ (o : Options) (only : o.written_only ≡ true) (nodes : List PlacedNode
   node_written : (i : ℕ) (n : PlacedNode) → slice_get nodes i ≡ Some n → IsWritten n
   node_written i n e =
       let within : i < length nodes = slice_get_within nodes i n e in
-      let clock = at_place clocks i (omega (arith, within, are.all)) in
+      let clock = get_there clocks i (omega (arith, within, are.all)) in
       elim (are.each i n clock.0 e clock.1).its [
         | inl h ↦ h.0
         | inr h ↦ let bad : true ≡ false = sym only ∙ h.is_open.0 in absurd (cc bad)

@@ -1,12 +1,13 @@
 -- A node without faults of names is well named, and one that is well named has none, but for too many places.
 use Rattle.std.proofs.Common.{◌≡◌, ◌≢◌, ◌<◌, ◌++◌, ◌||◌, ◌&&◌, ℕ, zero, suc, Bool, true, false, not, List, [], ◌∷◌, length, map, take, Option, Some, None, Err, slice_get, nat_eq, nat_lt, if◌then◌else◌, IsSomeAnd, Contains, AllPairs, refl, ap, sym, ◌∙◌, subst, ⊎_elim, arith, append-nil}
 use Rattle.std.specs.List.{AllByRecursion}
-use Rattle.std.proofs.lemmas.Bool.{false_from_ne_true}
+use Rattle.std.proofs.lemmas.Bool.{false_from_ne_true, or_right}
 use Rattle.std.proofs.lemmas.Bool.Decides.{nat_tests}
 use Rattle.std.proofs.lemmas.List.{get_or_default}
 use Rattle.std.proofs.lemmas.List.Elements.{Contains-append_left, Contains-push, Contains-push_cases}
 use Rattle.std.proofs.lemmas.Slice.Eq.{bytes_eq-Decides}
 use Rattle.lucy_word.specs.declared.limit.Limit.TheVariants as limit
+use Rattle.lucy_word.proofs.Lists.{front_empty, back_empty}
 use Rattle.lucy_host.specs.Operators.{Operator}
 use Rattle.lucy_tree.specs.declared.span.Name.{Name}
 use Rattle.lucy_tree.specs.View.{DefTree, NodeTree, ProgramTree}
@@ -20,7 +21,8 @@ use Rattle.lucy_naming.specs.Faults.{Within, unless, repeat, repeats, callee_fau
 use Rattle.lucy_place.specs.Standing.{most_places}
 use Rattle.lucy_naming.specs.Places.{Known, as_placed}
 use Rattle.lucy_naming.proofs.ProperPrograms.{behind}
-use Rattle.lucy_naming.proofs.VerdictLaws.{none_front, none_back, all_faultless}
+use Rattle.lucy_naming.proofs.VerdictLaws.{all_faultless}
+use Rattle.lucy_naming.proofs.OwnPlaces.{unless_holds, both_same}
 use Rattle.lucy_right.specs.Names.{HasOwner, NamesWell, AllNameWell, IsWellNamed}
 use Rattle.lucy_right.specs.Laws.{FaultlessAreWellNamed, WellNamedHaveNoFault}
 
@@ -39,22 +41,13 @@ pub there : (ts : List (List ℕ)) (t : List ℕ) → is_in ts t ≡ true → Co
 there [] t h = cc
 there (u ∷ us) t h = there_by u t us (is_text t u) refl h (there us t)
 
-or_true : (a b : Bool) → b ≡ true → (a || b) ≡ true
-or_true true b h = refl
-or_true false b h = h
-
 pub is_there : (ts : List (List ℕ)) (t : List ℕ) → Contains ts t → is_in ts t ≡ true
 is_there [] t (k, l, e) = absurd (omega arith)
 is_there (u ∷ us) t (zero, l, e) = ap (λ b. b || is_in us t) (is_same t u (sym e))
-is_there (u ∷ us) t (suc k, l, e) = or_true (is_text t u) (is_in us t) (is_there us t (k, omega (arith, l), e))
+is_there (u ∷ us) t (suc k, l, e) = or_right (is_text t u) (is_in us t) (is_there us t (k, omega (arith, l), e))
 
 pub not_there : (ts : List (List ℕ)) (t : List ℕ) → (Contains ts t → ⊥) → is_in ts t ≡ false
 not_there ts t out = false_from_ne_true (is_in ts t) (λ h. out (there ts t h))
-
--- what a test that is met says
-unless_holds : (b : Bool) (e : NameError) → unless b e ≡ [] → b ≡ true
-unless_holds true e h = refl
-unless_holds false e h = cc
 
 pub is_new : (ts : List (List ℕ)) (t : List ℕ) (e : NameError) → unless (not (is_in ts t)) e ≡ [] → Contains ts t → ⊥
 is_new ts t e h c = let b : not (is_in ts t) ≡ true = unless_holds (not (is_in ts t)) e h in let i : is_in ts t ≡ true = is_there ts t c in let n : not (is_in ts t) ≡ false = ap not i in cc
@@ -82,14 +75,14 @@ apart_tail t ts apart i j d h l same = apart (suc i) (suc j) d (omega (arith, h)
 -- names that don't repeat
 no_repeat : (before : List (List ℕ)) (ns : List Name) (t : List ℕ) → repeats before ns ≡ [] → Contains before t → Contains (map text_of ns) t → ⊥
 no_repeat before [] t new b (k, l, e) = omega arith
-no_repeat before (n ∷ ns) t new b (zero, l, e) = is_new before n.text (Twice n.span) (none_front (repeat before n) (repeats (before ++ n.text ∷ []) ns) new) (subst (Contains before) (sym e) b)
+no_repeat before (n ∷ ns) t new b (zero, l, e) = is_new before n.text (Twice n.span) (front_empty (repeat before n) (repeats (before ++ n.text ∷ []) ns) new) (subst (Contains before) (sym e) b)
 no_repeat before (n ∷ ns) t new b (suc k, l, e) =
-    no_repeat (before ++ n.text ∷ []) ns t (none_back (repeat before n) (repeats (before ++ n.text ∷ []) ns) new) (Contains-append_left before (n.text ∷ []) t b) (k, omega (arith, l), e)
+    no_repeat (before ++ n.text ∷ []) ns t (back_empty (repeat before n) (repeats (before ++ n.text ∷ []) ns) new) (Contains-append_left before (n.text ∷ []) t b) (k, omega (arith, l), e)
 
 pub apart : (before : List (List ℕ)) (ns : List Name) → repeats before ns ≡ [] → AreApart (map text_of ns)
 apart before [] new = λ i j d h l same. omega arith
 apart before (n ∷ ns) new =
-    let more = none_back (repeat before n) (repeats (before ++ n.text ∷ []) ns) new in
+    let more = back_empty (repeat before n) (repeats (before ++ n.text ∷ []) ns) new in
     apart_more n.text (map text_of ns) (λ c. no_repeat (before ++ n.text ∷ []) ns n.text more (Contains-push before n.text) c) (apart (before ++ n.text ∷ []) ns more)
 
 shifted : (u t : List ℕ) (us : List (List ℕ)) → Contains us t → Contains (u ∷ us) t
@@ -115,20 +108,17 @@ module _ (texts : List (List ℕ)) where
   pub results_fine : (before : List (List ℕ)) (ns : List Name) → result_faults texts before ns ≡ [] → AreStreams ns × (repeats before ns ≡ [])
   results_fine before [] h = (tt, refl)
   results_fine before (n ∷ ns) h =
-      let own = one_result before n (is_in texts n.text) refl (none_front (result_fault texts before n) (result_faults texts (before ++ n.text ∷ []) ns) h) in
-      let more = results_fine (before ++ n.text ∷ []) ns (none_back (result_fault texts before n) (result_faults texts (before ++ n.text ∷ []) ns) h) in
+      let own = one_result before n (is_in texts n.text) refl (front_empty (result_fault texts before n) (result_faults texts (before ++ n.text ∷ []) ns) h) in
+      let more = results_fine (before ++ n.text ∷ []) ns (back_empty (result_fault texts before n) (result_faults texts (before ++ n.text ∷ []) ns) h) in
       ((own.0, more.0), all_faultless (repeat before n) (repeats (before ++ n.text ∷ []) ns) own.1 more.1)
 
   pub no_result_faults : (before : List (List ℕ)) (ns : List Name) → AreStreams ns → repeats before ns ≡ [] → result_faults texts before ns ≡ []
   no_result_faults before [] are new = refl
   no_result_faults before (n ∷ ns) are new =
       let own : result_fault texts before n ≡ [] =
-      ap (λ b. if b then repeat before n else NoResult n.span ∷ []) (is_there texts n.text are.0) ∙ none_front (repeat before n) (repeats (before ++ n.text ∷ []) ns) new in
+      ap (λ b. if b then repeat before n else NoResult n.span ∷ []) (is_there texts n.text are.0) ∙ front_empty (repeat before n) (repeats (before ++ n.text ∷ []) ns) new in
       all_faultless (result_fault texts before n) (result_faults texts (before ++ n.text ∷ []) ns) own
-      (no_result_faults (before ++ n.text ∷ []) ns are.1 (none_back (repeat before n) (repeats (before ++ n.text ∷ []) ns) new))
-
-both_same : (a b c d : ℕ) → (nat_eq a b && nat_eq c d) ≡ true → (a ≡ b) × (c ≡ d)
-both_same a b c d h = (grind (arith, nat_tests), grind (arith, nat_tests))
+      (no_result_faults (before ++ n.text ∷ []) ns are.1 (back_empty (repeat before n) (repeats (before ++ n.text ∷ []) ns) new))
 
 same_both : (a b c d : ℕ) → a ≡ b → c ≡ d → (nat_eq a b && nat_eq c d) ≡ true
 same_both a b c d p q = grind (arith, nat_tests)
@@ -175,11 +165,11 @@ module _ (ops : List Operator) (all above : ProgramTree) (texts : List (List ℕ
     phrase_well : (r : ℕ) (f : Phrase) → phrase_faults w r f ≡ [] → NamesWell k above r f
     phrase_well r (name n) h = there texts n.text (unless_holds _ _ h)
     phrase_well r (headed h span fs) none_ =
-        (head_owned r (count fs) h (none_front (head_faults w r (count fs) h) (phrases_faults w fs) none_), all_well fs (none_back (head_faults w r (count fs) h) (phrases_faults w fs) none_))
+        (head_owned r (count fs) h (front_empty (head_faults w r (count fs) h) (phrases_faults w fs) none_), all_well fs (back_empty (head_faults w r (count fs) h) (phrases_faults w fs) none_))
 
     all_well : (fs : Phrases) → phrases_faults w fs ≡ [] → AllNameWell k above fs
     all_well none h = tt
-    all_well (and f fs) h = (phrase_well 1 f (none_front (phrase_faults w 1 f) (phrases_faults w fs) h), all_well fs (none_back (phrase_faults w 1 f) (phrases_faults w fs) h))
+    all_well (and f fs) h = (phrase_well 1 f (front_empty (phrase_faults w 1 f) (phrases_faults w fs) h), all_well fs (back_empty (phrase_faults w 1 f) (phrases_faults w fs) h))
 
   mutual
     well_phrase : (r : ℕ) (f : Phrase) → NamesWell k above r f → phrase_faults w r f ≡ []
@@ -198,7 +188,7 @@ module _ (ops : List Operator) (all above : ProgramTree) (texts : List (List ℕ
   defs_well (d ∷ ds) h =
       let f : Phrase = phrase_of d.right in
       let r : ℕ = result_count d.left in
-      (phrase_well r f (none_front (phrase_faults w r f) (def_faults w ds) h), defs_well ds (none_back (phrase_faults w r f) (def_faults w ds) h))
+      (phrase_well r f (front_empty (phrase_faults w r f) (def_faults w ds) h), defs_well ds (back_empty (phrase_faults w r f) (def_faults w ds) h))
 
   pub well_defs : (ds : List DefTree) → AreWell ds → def_faults w ds ≡ []
   well_defs [] h = refl
@@ -229,16 +219,16 @@ module _ (ops : List Operator) (all above : ProgramTree) (n : NodeTree) where
 
   pub node_well : node_faults ops all above n ≡ [] → IsWellNamed ops above n
   node_well h =
-      let behind_name = none_back in_name (in_streams ++ (in_defs ++ (in_results ++ in_rooms))) h in
-      let behind_streams = none_back in_streams (in_defs ++ (in_results ++ in_rooms)) behind_name in
-      let behind_defs = none_back in_defs (in_results ++ in_rooms) behind_streams in
-      let results = results_fine texts [] n.results (none_front in_results in_rooms behind_defs) in
+      let behind_name = back_empty in_name (in_streams ++ (in_defs ++ (in_results ++ in_rooms))) h in
+      let behind_streams = back_empty in_streams (in_defs ++ (in_results ++ in_rooms)) behind_name in
+      let behind_defs = back_empty in_defs (in_results ++ in_rooms) behind_streams in
+      let results = results_fine texts [] n.results (front_empty in_results in_rooms behind_defs) in
       record {
-        new = is_new (node_names above) n.name.text (Twice n.name.span) (none_front in_name (in_streams ++ (in_defs ++ (in_results ++ in_rooms))) h);
-        streams_apart = apart [] (streams n) (none_front in_streams (in_defs ++ (in_results ++ in_rooms)) behind_name);
+        new = is_new (node_names above) n.name.text (Twice n.name.span) (front_empty in_name (in_streams ++ (in_defs ++ (in_results ++ in_rooms))) h);
+        streams_apart = apart [] (streams n) (front_empty in_streams (in_defs ++ (in_results ++ in_rooms)) behind_name);
         results_apart = apart [] n.results results.1;
         results = results.0;
-        defs = defs_well ops all above texts n.defs (none_front in_defs (in_results ++ in_rooms) behind_streams);
+        defs = defs_well ops all above texts n.defs (front_empty in_defs (in_results ++ in_rooms) behind_streams);
       }
 
   nothing : (ts : List (List ℕ)) (t : List ℕ) → Contains [] t → Contains ts t → ⊥
@@ -258,12 +248,12 @@ module _ (ops : List Operator) (all : ProgramTree) where
   all_nodes_well : (above : ProgramTree) (ns : List NodeTree) → nodes_faults ops all above ns ≡ [] → (i : ℕ) (n : NodeTree) → slice_get ns i ≡ Some n → IsWellNamed ops (above ++ take i ns) n
   all_nodes_well above [] h i n there_ = cc
   all_nodes_well above (m ∷ ns) h zero n there_ =
-      let own = node_well ops all above m (none_front (node_faults ops all above m) (nodes_faults ops all (above ++ m ∷ []) ns) h) in
+      let own = node_well ops all above m (front_empty (node_faults ops all above m) (nodes_faults ops all (above ++ m ∷ []) ns) h) in
       let same : m ≡ n = cc in
       subst (IsWellNamed ops (above ++ [])) same (subst (λ a. IsWellNamed ops a m) (sym (append-nil above)) own)
   all_nodes_well above (m ∷ ns) h (suc i) n there_ =
       subst (λ a. IsWellNamed ops a n) (behind ops above m ns i)
-      (all_nodes_well (above ++ m ∷ []) ns (none_back (node_faults ops all above m) (nodes_faults ops all (above ++ m ∷ []) ns) h) i n there_)
+      (all_nodes_well (above ++ m ∷ []) ns (back_empty (node_faults ops all above m) (nodes_faults ops all (above ++ m ∷ []) ns) h) i n there_)
 
   -- the first fault is of too many places, where there is one
   abbrev TellsPlaces : List NameError → Type 0

@@ -1,12 +1,14 @@
 -- A written program stands for what it is accepted as alone.
-use Rattle.std.proofs.Common.{ℕ, suc, ◌<◌, ◌≡◌, List, [], ◌∷◌, length, take, Some, slice_get, refl, ap, sym, ◌∙◌, subst, arith}
+use Rattle.std.proofs.Common.{ℕ, suc, ◌<◌, ◌≡◌, List, [], length, take, Some, slice_get, ap, sym, ◌∙◌, subst, arith}
 use Rattle.std.specs.List.{AllByRecursion}
 use Rattle.std.proofs.lemmas.List.{take_all}
 use Rattle.std.proofs.lemmas.Option.{slice_get_within}
 use Rattle.lucy_word.specs.Bits.{Bits}
 use Rattle.lucy_word.specs.Shortest.{IsShortest}
 use Rattle.lucy_word.specs.Adaptable.{IsSize}
+use Rattle.lucy_word.proofs.Lists.{same_entries}
 use Rattle.lucy_host.specs.Operators.{Operator}
+use Rattle.lucy_host.proofs.Elements.{get_there}
 use Rattle.lucy_tree.specs.View.{ProgramTree}
 use Rattle.lucy_grammar.specs.Laws.{TextsHaveOneAnswer}
 use Rattle.lucy_grammar.specs.Texts.{HasTree}
@@ -15,7 +17,6 @@ use Rattle.lucy_place.specs.Proper.{IsProperNode, AreProper}
 use Rattle.lucy_place.specs.WrittenNodes.{IsWritten}
 use Rattle.lucy_types.specs.declared.ty.Ty.{Ty}
 use Rattle.lucy_types.specs.Programs.{IsTyped}
-use Rattle.lucy_types.proofs.ListLaws.{get_there}
 use Rattle.lucy_types.proofs.ProgramLaws.{typed_unique}
 use Rattle.lucy_need.specs.Meeting.{assigned}
 use Rattle.lucy_clock.specs.declared.node_clock.NodeClock.{NodeClock}
@@ -34,14 +35,6 @@ use Rattle.lucy_right.specs.Accepted.{WrittenStandForOne}
 use Rattle.lucy_right.proofs.ClockLaws.{same_words}
 use Rattle.lucy_right.proofs.RefusedLaws.{text_nodes}
 
--- lists that are equal at each place are one
-entries_same : {A : Type 0} (xs ys : List A) → length xs ≡ length ys → ((i : ℕ) (x y : A) → slice_get xs i ≡ Some x → slice_get ys i ≡ Some y → x ≡ y) → xs ≡ ys
-entries_same [] [] count same = refl
-entries_same [] (y ∷ ys) count same = absurd (omega (arith, count))
-entries_same (x ∷ xs) [] count same = absurd (omega (arith, count))
-entries_same (x ∷ xs) (y ∷ ys) count same =
-    ap (λ a. a ∷ xs) (same 0 x y refl refl) ∙ ap (λ xs. y ∷ xs) (entries_same xs ys (omega (arith, count)) (λ i a b e f. same (suc i) a b e f))
-
 -- by the same words a node has the same sizes
 module _ (nodes : List PlacedNode) (n : PlacedNode) (proper : IsProperNode nodes n) (c d : NodeClock) (words : c.words ≡ d.words) (x : AreSizes n c) (y : AreSizes n d) where
   size_same : (i s t : ℕ) → slice_get c.sizes i ≡ Some s → slice_get d.sizes i ≡ Some t → s ≡ t
@@ -53,7 +46,7 @@ module _ (nodes : List PlacedNode) (n : PlacedNode) (proper : IsProperNode nodes
 
   clock_same : c ≡ d
   clock_same =
-      let sizes : c.sizes ≡ d.sizes = entries_same c.sizes d.sizes (x.count ∙ sym y.count) size_same in
+      let sizes : c.sizes ≡ d.sizes = same_entries c.sizes d.sizes (x.count ∙ sym y.count) size_same in
       ap (λ (ws : List Bits). let r : NodeClock = record { words = ws; sizes = c.sizes } in r) words
       ∙ ap (λ (ss : List ℕ). let r : NodeClock = record { words = d.words; sizes = ss } in r) sizes
 
@@ -74,7 +67,7 @@ module _ (handed : HandedLaw) (o : Options) (nodes : List PlacedNode) (cs ds : L
       clock_same (take i nodes) n.0 (proper i n.0 n.1) c d (words_at i c d of is) (clocked.each i n.0 c n.1 of).sizes (other.each i n.0 d n.1 is).sizes
 
   clocks_one : cs ≡ ds
-  clocks_one = entries_same cs ds (clocked.count ∙ sym other.count) clock_at
+  clocks_one = same_entries cs ds (clocked.count ∙ sym other.count) clock_at
 
 -- the laws below that are called
 pub record Laws : Type 0 where

@@ -6,7 +6,7 @@ use Rattle.std.proofs.lemmas.Option.{slice_get_within}
 use Rattle.lucy_word.specs.declared.limit.Limit.{Limit}
 use Rattle.lucy_host.specs.Operators.{Operator}
 use Rattle.lucy_stream.specs.Iterates.{Place}
-use Rattle.lucy_stream.specs.Needs.{Item, IsWalk, IsCycle, IsCausal}
+use Rattle.lucy_stream.specs.Needs.{StreamItem, IsWalk, IsCycle, IsCausal}
 use Rattle.lucy_tree.specs.View.{ProgramTree}
 use Rattle.lucy_grammar.specs.Laws.{TextsHaveOneAnswer}
 use Rattle.lucy_grammar.specs.Texts.{HasTree}
@@ -47,11 +47,11 @@ use Rattle.lucy_right.proofs.NameLaws.{well_faultless}
 use Rattle.lucy_right.proofs.ClockLaws.{fails_beyond}
 
 -- where no item reaches itself there is no cycle
-walk_counted : (places : List Place) (x end : Item) (walk : List Item) → IsWalk places x walk end → 1 ≤ end.number
+walk_counted : (places : List Place) (x end : StreamItem) (walk : List StreamItem) → IsWalk places x walk end → 1 ≤ end.number
 walk_counted places x end [] h = h.counted
 walk_counted places x end (y ∷ walk) h = walk_counted places y end walk h.1
 
-uncycled : (places : List Place) (items : List Item) → IsCausal places → IsCycle places items → ⊥
+uncycled : (places : List Place) (items : List StreamItem) → IsCausal places → IsCycle places items → ⊥
 uncycled places [] causal h = h
 uncycled places (x ∷ walk) causal h = causal x (walk_counted places x x walk h) (walk, h)
 

@@ -3,7 +3,7 @@ use Rattle.std.proofs.Common.{ℕ, zero, suc, ◌+◌, ◌<◌, ◌≤◌, ◌�
 use Rattle.std.specs.Prelude.{ℤ, pos, codes, ◌≢◌, ◌⊎◌, slice_index_or, option_map, AllPairs}
 use Rattle.std.specs.Str.Lines.{lines}
 use Rattle.std.proofs.lemmas.Bool.{cases_lt}
-use Rattle.std.proofs.lemmas.Option.{same_Some}
+use Rattle.std.proofs.lemmas.Option.{same_Some, none-some}
 use Rattle.lucy_word.specs.Bits.{bit_at, ones_to, Bits}
 use Rattle.lucy_word.proofs.IndexLaws.{ones_to-rises}
 use Rattle.lucy_host.specs.declared.kind.HostKind.{HostKind}
@@ -11,10 +11,10 @@ use Rattle.lucy_host.specs.declared.data_type.DataType.TheVariants.{Int}
 use Rattle.lucy_host.specs.Operators.{Operator, kinds_of}
 use Rattle.lucy_stream.specs.Items.{list_at}
 use Rattle.lucy_lines.specs.declared.output.OutputSpec.{OutputSpec}
-use Rattle.lucy_lines.specs.Fields.{fields}
+use Rattle.lucy_lines.specs.Fields.{line_fields}
 use Rattle.lucy_lines.specs.Values.{SpellsValue}
 use Rattle.lucy_tree.specs.View.{ProgramTree, NodeTree}
-use Rattle.lucy_types.proofs.ListLaws.{none_some, contains_at, contains_none}
+use Rattle.lucy_types.proofs.ListLaws.{contains_at, contains_none}
 use Rattle.lucy_place.specs.declared.placed.PlacedNode.{PlacedNode}
 use Rattle.lucy_place.specs.WrittenNodes.{IsWritten}
 use Rattle.lucy_kahn.specs.Kahn.{kahn}
@@ -41,11 +41,11 @@ use Rattle.lucy_right.proofs.EndRows.{x_input, y_output, input, due, printings, 
 
 -- what holds of each of its places
 each_place : (P : ℕ → PlaceEntry → Type 0) → P 1 x_place → P 2 y_place → P 3 b_place → (p : ℕ) (entry : PlaceEntry) → at_one node.places p ≡ Some entry → P p entry
-each_place P a b c zero entry e = absurd (none_some entry e)
+each_place P a b c zero entry e = absurd (none-some entry e)
 each_place P a b c (suc zero) entry e = subst (P 1) (same_Some x_place entry e) a
 each_place P a b c (suc (suc zero)) entry e = subst (P 2) (same_Some y_place entry e) b
 each_place P a b c (suc (suc (suc zero))) entry e = subst (P 3) (same_Some b_place entry e) c
-each_place P a b c (suc (suc (suc (suc p)))) entry e = absurd (none_some entry e)
+each_place P a b c (suc (suc (suc (suc p)))) entry e = absurd (none-some entry e)
 
 -- its nodes
 nodes_are : (ops : List Operator) → AreNodesOf ops (later ∷ []) (node ∷ [])
@@ -75,8 +75,8 @@ well_named ops = record {
 
 -- the table of forms holds
 no_call : (c : ℕ) (site : CallSite) → at_one [] c ≡ Some site → ⊥
-no_call zero site e = none_some site e
-no_call (suc c) site e = none_some site e
+no_call zero site e = none-some site e
+no_call (suc c) site e = none-some site e
 
 no_bound : (k : ℕ) → KeepsBound (bound_of node k) odd even
 no_bound zero = tt
@@ -95,7 +95,7 @@ well = record {
   bounds = λ p k e s. let r = buffer_reads p k e s in subst (λ p. KeepsBound (bound_of node k) (assigned words e) (assigned words p)) (sym r.0)
       (subst (λ e. KeepsBound (bound_of node k) (assigned words e) even) (sym r.1) (no_bound k));
   written = λ p entry word at. each_place (λ p entry. entry.word ≡ Some word → Same (assigned words p) word) (λ e. subst (Same odd) (same_Some odd word e) (λ i h. refl))
-      (λ e. subst (Same even) (same_Some even word e) (λ i h. refl)) (λ e. absurd (none_some word e)) p entry at;
+      (λ e. subst (Same even) (same_Some even word e) (λ i h. refl)) (λ e. absurd (none-some word e)) p entry at;
   calls = λ c site e. absurd (no_call c site e);
 }
 
@@ -129,15 +129,15 @@ rank (suc (suc zero)) = 2
 rank (suc (suc (suc p))) = 1
 
 reads_down : (path : List ℕ) (place operand : ℕ) (y : Spot) → IsSpot (node ∷ []) (at path place) → slice_get (reads_at (node ∷ []) (at path place)) operand ≡ Some y → rank y.place < rank place
-reads_down [] zero operand y there e = absurd (none_some there.0 there.1)
-reads_down [] (suc zero) operand y there e = absurd (none_some y e)
+reads_down [] zero operand y there e = absurd (none-some there.0 there.1)
+reads_down [] (suc zero) operand y there e = absurd (none-some y e)
 reads_down [] (suc (suc zero)) zero y there e = subst (λ (y : Spot). rank y.place < 2) (same_Some (at [] 3) y e) (omega arith)
-reads_down [] (suc (suc zero)) (suc operand) y there e = absurd (none_some y e)
+reads_down [] (suc (suc zero)) (suc operand) y there e = absurd (none-some y e)
 reads_down [] (suc (suc (suc zero))) zero y there e = subst (λ (y : Spot). rank y.place < 1) (same_Some (at [] 1) y e) (omega arith)
-reads_down [] (suc (suc (suc zero))) (suc operand) y there e = absurd (none_some y e)
-reads_down [] (suc (suc (suc (suc p)))) operand y there e = absurd (none_some there.0 there.1)
+reads_down [] (suc (suc (suc zero))) (suc operand) y there e = absurd (none-some y e)
+reads_down [] (suc (suc (suc (suc p)))) operand y there e = absurd (none-some there.0 there.1)
 reads_down (c ∷ path) place operand y there e =
-    absurd (none_some there.0 (sym (ap (λ o. option_map (λ (entry : PlaceEntry). entry.kind) (option_and_then (λ (n : PlacedNode). at_one n.places place)
+    absurd (none-some there.0 (sym (ap (λ o. option_map (λ (entry : PlaceEntry). entry.kind) (option_and_then (λ (n : PlacedNode). at_one n.places place)
     (option_and_then (λ (site : CallSite). slice_get (node ∷ []) site.node) o))) (no_site path c)) ∙ there.1))
 
 walk_down : (x : SpotItem) (walk : List SpotItem) (end : SpotItem) → IsSpotWalk (node ∷ []) x walk end → rank end.spot.place < rank x.spot.place
@@ -160,7 +160,7 @@ stands ops = record {
 -- all of its clocks are written
 pub written : IsWritten node
 written = record {
-  words = λ p entry name at. each_place (λ p entry. entry.name ≡ Some name → (word : Bits) × (entry.word ≡ Some word)) (λ e. (odd, refl)) (λ e. (even, refl)) (λ e. absurd (none_some name e)) p entry at;
+  words = λ p entry name at. each_place (λ p entry. entry.name ≡ Some name → (word : Bits) × (entry.word ≡ Some word)) (λ e. (odd, refl)) (λ e. (even, refl)) (λ e. absurd (none-some name e)) p entry at;
   bases = λ c site e. absurd (no_call c site e);
   sampled = λ p e word s. each_place (λ p entry. entry.kind ≡ kind.When e word → IsNamed node e) (λ bad. absurd (cc bad)) (λ bad. absurd (cc bad)) (λ bad. absurd (cc bad)) p s.0 s.1 s.2;
   buffered = λ p b e s. subst (IsNamed node) (sym (buffer_reads p b e s).1) (x_place, a_name (codes "x") 16 17, refl, refl);
@@ -178,7 +178,7 @@ later_iterates kinds inputs (suc (suc zero)) far = absurd (omega (arith, far))
 later_iterates kinds inputs (suc (suc (suc n))) far = refl
 
 -- what main is fed by both lines, and its stream
-says : (line spelled : List ℕ) (v : ℤ) → fields line ≡ codes "x" ∷ spelled ∷ [] → SpellsValue Int spelled v → LineSays (x_input ∷ []) line (said v)
+says : (line spelled : List ℕ) (v : ℤ) → line_fields line ≡ codes "x" ∷ spelled ∷ [] → SpellsValue Int spelled v → LineSays (x_input ∷ []) line (said v)
 says line spelled v split spells = (codes "x", spelled, x_input, split, record { found = refl; there = refl }, spells)
 
 both_say : LinesSay (x_input ∷ []) (lines input) (said (pos 12) ∷ said (pos 3) ∷ [])

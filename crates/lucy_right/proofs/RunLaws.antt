@@ -15,7 +15,7 @@ use Rattle.lucy_stream.proofs.FrontLaws.{IsFront-take, IsFront-trans, IsFront-cu
 use Rattle.lucy_lines.specs.declared.input.InputSpec.{InputSpec}
 use Rattle.lucy_lines.specs.declared.reader.TextFault.{TextFault}
 use Rattle.lucy_lines.specs.declared.reader.TextFault.TheVariants.{ReadFault, TooLong}
-use Rattle.lucy_lines.specs.Cuts.{ItemOf, Stop, At, Before, Held, Cut, input_of}
+use Rattle.lucy_lines.specs.Cuts.{ItemOf, Stop, At, Before, Held, Cut, whole_input}
 use Rattle.lucy_text.specs.Sources.{ReadStop, Unread, Ended, Failed, Passed, Open, Drained}
 use Rattle.lucy_lines.specs.Feeding.{is_closed, values_by_stream, fault_of, StopsFor, IsFeedOf}
 use Rattle.lucy_lines.specs.declared.output.OutputSpec.{OutputSpec}
@@ -221,12 +221,12 @@ module _ (laws : Laws) (ops : List Operator) (o : Options) (text : List ℕ) (a 
 
   -- with inputs, of a cut
   of_cut : (specs : List InputSpec) → a.inputs.items ≡ specs → specs ≢ [] → (closed : Bool) (taken more : List ℕ) (items : List ItemOf) (stop : Stop) (horizon : ℕ) (Done Refused : Type 0) →
-      (closed ≡ true → more ≡ []) → Cut specs closed (input_of taken) items stop → IsHorizonOf (input_words a) given (lists_of items) horizon →
+      (closed ≡ true → more ≡ []) → Cut specs closed (whole_input taken) items stop → IsHorizonOf (input_words a) given (lists_of items) horizon →
       (Done → (closed ≡ true) × (held : Held) × (stop ≡ Before held)) → (Done → given ≡ None → AllowsMore (input_words a) (lists_of items) → ⊥) →
       (Refused → (f : TextFault) × (stop ≡ At f) × (f ≢ TooLong)) → IsRunOfText ops o given text (taken ++ more) (output_of (lists_of items) horizon) Done Refused
   of_cut [] e some closed taken more items stop horizon Done Refused shut cut greatest all within next = absurd (some refl)
   of_cut (input ∷ others) e some closed taken more items stop horizon Done Refused shut cut greatest all within next =
-      let lined : Lined (input ∷ others) closed (input_of taken) more items stop = cut_lines input others closed cut more shut in
+      let lined : Lined (input ∷ others) closed (whole_input taken) more items stop = cut_lines input others closed cut more shut in
       of_items (taken ++ more) lined.many items horizon Done Refused (subst (λ specs. LinesSay specs (take lined.many (lines (taken ++ more))) items) (sym e) lined.say) greatest
       (λ d. let h = all d in lined.all h.0 h.1 h.2) within
       (λ r. let h = next r in subst (λ specs. IsSomeAnd (slice_get (lines (taken ++ more)) lined.many) (LineFails specs)) (sym e) (lined.next h.0 h.1 h.2))

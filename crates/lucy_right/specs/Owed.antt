@@ -3,7 +3,7 @@ use Rattle.std.specs.Prelude.{ℕ, ◌≡◌, ◌≢◌, Bool, true, List, [], �
 use Rattle.lucy_word.specs.Limits.{limit_number}
 use Rattle.lucy_word.specs.declared.limit.Limit.TheVariants as limit
 use Rattle.lucy_host.specs.Operators.{Operator, kinds_of}
-use Rattle.lucy_lines.specs.Cuts.{ItemOf, Stop, At, Before, Held, Cut, input_of}
+use Rattle.lucy_lines.specs.Cuts.{ItemOf, Stop, At, Before, Held, Cut, whole_input}
 use Rattle.lucy_lines.specs.declared.reader.TextFault.{TextFault}
 use Rattle.lucy_lines.specs.declared.reader.TextFault.TheVariants.{ReadFault, TooLong}
 use Rattle.lucy_text.specs.Sources.{ReadStop}
@@ -37,7 +37,7 @@ IsRunOfText ops o given text input output Done Refused =
 -- lines where no line stops the items of all bytes, and of those before the line that does.
 abbrev pub CutsAreRuns : Type 0
 CutsAreRuns = (ops : List Operator) (o : Options) (text : List ℕ) (a : Accepted) (given : Option ℕ) (closed : Bool) (taken more : List ℕ) (items : List ItemOf) (stop : Stop) (horizon : ℕ) →
-    IsAccepted ops o text a → a.inputs.items ≢ [] → (closed ≡ true → more ≡ []) → Cut a.inputs.items closed (input_of taken) items stop →
+    IsAccepted ops o text a → a.inputs.items ≢ [] → (closed ≡ true → more ≡ []) → Cut a.inputs.items closed (whole_input taken) items stop →
     IsHorizonOf (input_words a) given (values_by_stream (length a.inputs.items) items) horizon →
     IsRunOfText ops o given text (taken ++ more) (heading a ++ lines_to (kinds_of ops) a (values_by_stream (length a.inputs.items) items) horizon)
     ((closed ≡ true) × (held : Held) × (stop ≡ Before held) × (given ≡ None → AllowsMore (input_words a) (values_by_stream (length a.inputs.items) items) → ⊥))

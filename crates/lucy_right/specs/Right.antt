@@ -10,7 +10,7 @@ use Rattle.lucy_host.specs.Operators.{Operator, kinds_of}
 use Rattle.lucy_stream.specs.Items.{list_at}
 use Rattle.lucy_lines.specs.declared.input.InputSpec.{InputSpec}
 use Rattle.lucy_lines.specs.Fronts.{longest_line}
-use Rattle.lucy_lines.specs.Fields.{fields}
+use Rattle.lucy_lines.specs.Fields.{line_fields}
 use Rattle.lucy_lines.specs.Values.{SpellsValue}
 use Rattle.lucy_lines.specs.Kinds.{IsInput}
 use Rattle.lucy_lines.specs.Cuts.{ItemOf}
@@ -53,19 +53,19 @@ pub record StandsFor (ops : List Operator) (program : ProgramTree) (m : Meaning)
 -- a line says an item: the name of an input, and a value of its type
 abbrev pub LineSays : List InputSpec → List ℕ → ItemOf → Type 0
 LineSays inputs line item =
-    (name spelled : List ℕ) × (input : InputSpec) × (fields line ≡ name ∷ spelled ∷ []) × IsInput inputs name item.stream input
+    (name spelled : List ℕ) × (input : InputSpec) × (line_fields line ≡ name ∷ spelled ∷ []) × IsInput inputs name item.stream input
     × SpellsValue input.holds spelled item.value
 
 -- a line is refused where main has inputs: it is too long, or it isn't blank and says no item
 abbrev pub LineFails : List InputSpec → List ℕ → Type 0
-LineFails inputs line = (inputs ≢ []) × ((longest_line < length line) ⊎ ((fields line ≢ []) × ((item : ItemOf) → LineSays inputs line item → ⊥)))
+LineFails inputs line = (inputs ≢ []) × ((longest_line < length line) ⊎ ((line_fields line ≢ []) × ((item : ItemOf) → LineSays inputs line item → ⊥)))
 
 -- lines say items, in turn: none is too long, a line of blanks says none, and where main has no inputs nothing is read
 abbrev pub LinesSay : List InputSpec → List (List ℕ) → List ItemOf → Type 0
 LinesSay [] lines items = items ≡ []
 LinesSay inputs [] items = items ≡ []
 LinesSay inputs (line ∷ lines) items =
-    (length line ≤ longest_line) × (((fields line ≡ []) × LinesSay inputs lines items)
+    (length line ≤ longest_line) × (((line_fields line ≡ []) × LinesSay inputs lines items)
     ⊎ ((item : ItemOf) × (more : List ItemOf) × LineSays inputs line item × LinesSay inputs lines more × (items ≡ item ∷ more)))
 
 -- the first items of the Kahn stream of a place of main: as many as its word has ones up to the horizon, the same in every iterate from some one on

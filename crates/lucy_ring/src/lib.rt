@@ -4,7 +4,6 @@
 //! `specs/Views.antt`, which says what a contract sees of an end.
 #![tactic(auto)]
 
-mod error;
 mod giver;
 mod giver_end;
 mod making;
@@ -12,8 +11,8 @@ mod meeting;
 mod taker;
 mod taker_end;
 
-pub use error::OutOfMemory;
 pub use giver::Giver;
 pub use making::ring;
 pub use meeting::meet;
+pub use std::alloc::AllocError as OutOfMemory;
 pub use taker::Taker;

@@ -3,17 +3,16 @@ ghost use Rattle.lucy_ring.specs.Ring.{given, held, taken, known_slots, known, r
 ghost use Rattle.lucy_word.specs.Limits.{limit_number};
 ghost use Rattle.lucy_word.specs.declared.limit.Limit.TheVariants as limit;
 
-use crate::error::OutOfMemory;
 use crate::giver::Giver;
 use crate::giver_end::GiverEnd;
 use crate::taker::Taker;
 use crate::taker_end::TakerEnd;
 use rtrb::RingBuffer;
-use std::alloc::Global;
+use std::alloc::{AllocError, Global};
 
 /// An empty ring with room for `capacity` items, from 1 to the number of `Limit::Slots`, and for as many numbers that go
 /// back, by its two ends. All memory that they ever use is taken here.
-pub fn ring(alloc: Global, capacity: u32) -> Result<(Giver, Taker), OutOfMemory>
+pub fn ring(alloc: Global, capacity: u32) -> Result<(Giver, Taker), AllocError>
     requires within { (1 ≤ capacity) × (capacity ≤ limit_number limit.Slots) }
     ensures ends { IfOk result (λ r. r.0.ring ≡ r.1.ring) }
     ensures slots { IfOk result (λ r. (r.0.ring.capacity ≡ capacity) × (r.0.ring.numbers_capacity ≡ capacity)) }
@@ -24,7 +23,7 @@ pub fn ring(alloc: Global, capacity: u32) -> Result<(Giver, Taker), OutOfMemory>
     Ok((Giver { end: giver }, Taker { end: taker }))
 }
 
-fn ends(alloc: Global, capacity: u32) -> Result<(GiverEnd, TakerEnd), OutOfMemory>
+fn ends(alloc: Global, capacity: u32) -> Result<(GiverEnd, TakerEnd), AllocError>
     requires within { (1 ≤ capacity) × (capacity ≤ limit_number limit.Slots) }
     ensures ends { IfOk result (λ r. ring_of_giver r.0 ≡ ring_of_taker r.1) }
     ensures slots { IfOk result (λ r. ((ring_of_giver r.0).capacity ≡ capacity) × ((ring_of_giver r.0).numbers_capacity ≡ capacity)) }

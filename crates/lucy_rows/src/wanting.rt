@@ -5,8 +5,7 @@ ghost use Rattle.std.specs.Option.{option_map_or};
 use lucy_app::Engine;
 use lucy_host::{Host, Inputs};
 use lucy_program::Accepted;
-use lucy_word::OutOfMemory;
-use std::alloc::Global;
+use std::alloc::{AllocError, Global};
 
 /// What an engine is asked for: to play up to an instant, by so many workers.
 #[derive(Clone, Copy)]
@@ -34,8 +33,8 @@ impl<F> Engine<F> for Wanting {
         _inputs: Inputs,
         instants: u64,
         workers: u32,
-    ) -> Result<Inputs, OutOfMemory> {
+    ) -> Result<Inputs, AllocError> {
         self.request = Some(Request { instants, workers });
-        Err(OutOfMemory)
+        Err(AllocError)
     }
 }

@@ -1,6 +1,6 @@
 -- How a call ends, from what its parts leave.
-use Rattle.std.proofs.Common.{◌≡◌, ℕ, ◌+◌, ◌≤◌, ◌⊎◌, List, [], ◌∷◌, ◌++◌, length, take, append_assoc, Option, Some, None, Result, Ok, Err, OnOk, OnErr, refl, ap, sym, ◌∙◌, subst, inl, inr, arith}
-use Rattle.std.specs.Prelude.{ℤ, IfOk, MatchResult}
+use Rattle.std.proofs.Common.{◌≡◌, ℕ, ◌+◌, ◌≤◌, ◌⊎◌, List, [], ◌++◌, length, take, append_assoc, Option, Some, None, Result, Ok, Err, OnOk, OnErr, refl, ap, sym, ◌∙◌, subst, inl, inr, arith}
+use Rattle.std.specs.Prelude.{ℤ, IfOk}
 use Rattle.std.proofs.lemmas.List.{take-append-le}
 use Rattle.std.proofs.Math.Seq.{take-length}
 use Rattle.std.proofs.lemmas.Result.{IfOk-at_ok}
@@ -12,7 +12,7 @@ use Rattle.lucy_kahn.specs.declared.error.KahnError.TheVariants as error
 use Rattle.lucy_lines.specs.Fronts.{most_bytes}
 use Rattle.lucy_lines.specs.declared.reader.TextFault.{TextFault}
 use Rattle.lucy_lines.specs.declared.feeds.Feed.{Feed}
-use Rattle.lucy_word.specs.declared.error.OutOfMemory.{OutOfMemory}
+use Rattle.std.specs.declared.alloc.AllocError.{AllocError}
 use Rattle.lucy_text.specs.Outside.{SeenSource, SeenSink, Writes, Fails}
 use Rattle.lucy_text.specs.Sources.{ReadStop, Unread, Read}
 use Rattle.lucy_lines.specs.declared.output.OutputSpec.{OutputSpec}
@@ -116,17 +116,6 @@ module _ (kinds : List HostKind) (nodes : List PlacedNode) (clocks : List NodeCl
 
 pub on_ok : {T E P : Type 0} (r : Result T E) (x : T) → r ≡ Ok x → OnOk r P → P
 on_ok {P = P} r x e h = subst (λ u. OnOk u P) e h
-
-pub at_err : {T E : Type 0} (r : Result T E) (e : E) (A : T → Type 0) (B : E → Type 0) → r ≡ Err e → MatchResult r A B → B e
-at_err r e A B is m = subst (λ u. MatchResult u A B) is m
-
-pub at_ok : {T E : Type 0} (r : Result T E) (x : T) (A : T → Type 0) (B : E → Type 0) → r ≡ Ok x → MatchResult r A B → A x
-at_ok r x A B is m = subst (λ u. MatchResult u A B) is m
-
--- a list without items
-pub empty_of : {A : Type 0} (xs : List A) → length xs ≡ 0 → xs ≡ []
-empty_of [] l = refl
-empty_of (x ∷ xs) l = absurd (omega arith)
 
 pub on_err : {T E P : Type 0} (r : Result T E) (y : E) → r ≡ Err y → OnErr r P → P
 on_err {P = P} r y e h = subst (λ u. OnErr u P) e h
@@ -338,7 +327,7 @@ module _ (kinds : List HostKind) (a : Accepted) (given : Option ℕ) where
   kahn_given_up before after taken stop o read asked = (taken, stop, read, asked, ([], inl refl, unwritten o))
 
   -- main was fed, and the lines were written or not
-  pub kahn_done : (before after : SeenSource) (was now : SeenSink) (result : Ending) (feed : Feed) (answer : Result Feed OutOfMemory) (clocks : List NodeClock) (outputs : List OutputSpec) (taken : List ℕ) (stop : ReadStop) →
+  pub kahn_done : (before after : SeenSource) (was now : SeenSink) (result : Ending) (feed : Feed) (answer : Result Feed AllocError) (clocks : List NodeClock) (outputs : List OutputSpec) (taken : List ℕ) (stop : ReadStop) →
       Read most_bytes before after taken stop → IsAsked a.inputs.items taken → IsMainFeed a.inputs.items taken stop answer → answer ≡ Ok feed → clocks ≡ a.clocks.items → outputs ≡ a.outputs.items →
       (horizon : ℕ) × IsHorizonOf (param_words a.placed.nodes clocks) given feed.items horizon × LeavesOwed (Interprets kinds a.placed.nodes clocks outputs given feed.items feed.stop horizon) was now result →
       KahnGives before after was now result

@@ -1,7 +1,7 @@
 -- How a run by an engine ends, from what its parts leave.
 use Rattle.std.proofs.Common.{◌≡◌, ℕ, List, [], ◌++◌, length, Option, Result, Ok, refl, ap, sym, ◌∙◌, subst, inl, inr}
 use Rattle.std.specs.Prelude.{ℤ}
-use Rattle.lucy_word.specs.declared.error.OutOfMemory.{OutOfMemory}
+use Rattle.std.specs.declared.alloc.AllocError.{AllocError}
 use Rattle.lucy_host.specs.declared.kind.HostKind.{HostKind}
 use Rattle.lucy_lines.specs.Fronts.{most_bytes}
 use Rattle.lucy_text.specs.Outside.{SeenSource, SeenSink, Writes, Fails}
@@ -92,7 +92,7 @@ module _ (kinds : List HostKind) (a : Accepted) (given : Option ℕ) (workers : 
 
   -- main was fed
   module _ (before after : SeenSource) (taken : List ℕ) (stop : ReadStop) (read : Read most_bytes before after taken stop)
-      (bytes : IsAsked a.inputs.items taken) (answer : Result Feed OutOfMemory) (feed : Feed)
+      (bytes : IsAsked a.inputs.items taken) (answer : Result Feed AllocError) (feed : Feed)
       (is : answer ≡ Ok feed) (fed_so : IsMainFeed a.inputs.items taken stop answer) (was between : SeenSink) (head : Writes was between (heading a))
       (MayNot : Type 0) (asks : AsksUnless MayNot (AsksToPlay a given feed.items workers) asked asked') where
     feeds : Feeds a.inputs.items taken stop feed.items feed.stop

@@ -4,7 +4,7 @@ use Rattle.std.specs.Prelude.{ℤ, ◌⊎◌, length}
 use Rattle.lucy_text.proofs.OutsideLaws.{followed-nil, still_none}
 use Rattle.lucy_host.specs.declared.kind.HostKind.{HostKind}
 use Rattle.lucy_lines.specs.declared.input.InputSpec.{InputSpec}
-use Rattle.lucy_lines.specs.Cuts.{ItemOf, input_of}
+use Rattle.lucy_lines.specs.Cuts.{ItemOf, whole_input}
 use Rattle.lucy_lines.specs.declared.reader.TextFault.{TextFault}
 use Rattle.lucy_lines.specs.declared.reader.TextFault.TheVariants.{BadLine, UnknownStream, BadValue, ReadFault, TooLong}
 use Rattle.lucy_lines.specs.Fronts.{most_bytes}
@@ -45,7 +45,7 @@ failed_for (Some TooLong) stop is e = absurd (never_failed stop is e)
 pub lines_feed : (inputs : List InputSpec) (taken : List ℕ) (stop : ReadStop) (lists : List (List ℤ)) (fault : Option TextFault) → Feeds inputs taken stop lists fault →
     LinesFeed inputs taken stop lists
 lines_feed [] taken stop lists fault (none, unread, empty, calm) =
-    let (items, halt, cut) = some_cut [] (is_closed stop) (input_of taken) in
+    let (items, halt, cut) = some_cut [] (is_closed stop) (whole_input taken) in
     (items, halt, cut, λ e. (let no_more : Unread ≡ Failed = sym unread ∙ e in cc), empty)
 lines_feed (input ∷ inputs) taken stop lists fault (items, halt, feed) = (items, halt, feed.cut, λ e. sym feed.fault ∙ failed_for fault stop feed.stopped e, feed.lists)
 
@@ -58,7 +58,7 @@ owed_allowed kinds a given taken stop output end (lists, fault, horizon, fed, te
 -- bytes feed something, whatever they are
 pub some_lines : (inputs : List InputSpec) (taken : List ℕ) (stop : ReadStop) → (stop ≡ Failed → ⊥) → (lists : List (List ℤ)) × LinesFeed inputs taken stop lists
 some_lines inputs taken stop calm =
-    let (items, halt, cut) = some_cut inputs (is_closed stop) (input_of taken) in
+    let (items, halt, cut) = some_cut inputs (is_closed stop) (whole_input taken) in
     (values_by_stream (length inputs) items, (items, halt, cut, λ e. absurd (calm e), refl))
 
 -- where reading was given up, those lines feed main that stand behind its items too

@@ -1,8 +1,8 @@
 -- Lines up to one horizon and up to a later one.
-use Rattle.std.proofs.Common.{ℕ, ◌≡◌, List, [], ◌++◌, Some, map, take, drop, get_or, ap, sym, ◌∙◌, arith}
+use Rattle.std.proofs.Common.{ℕ, ◌≡◌, List, [], ◌++◌, Some, take, drop, ap, sym, ◌∙◌, arith}
 use Rattle.std.specs.Prelude.{ℤ, slice_get, option_map}
 use Rattle.std.proofs.lemmas.List.{length-map, take-take}
-use Rattle.std.proofs.lemmas.Option.{get_or_from_slice_get, slice_get-map}
+use Rattle.std.proofs.lemmas.Option.{slice_get-map}
 use Rattle.lucy_word.specs.Bits.{ones_to}
 use Rattle.lucy_stream.specs.Items.{list_at}
 use Rattle.lucy_lines.specs.declared.output.OutputSpec.{OutputSpec}
@@ -13,12 +13,9 @@ use Rattle.lucy_kahn.proofs.JoinedLists.{mapped}
 use Rattle.lucy_results.specs.Streams.{main_word, result_words, main_stream, main_streams, later_stream, later_streams, cut_to}
 use Rattle.lucy_results.specs.Laws.{StreamsGoOn}
 use Rattle.lucy_results.proofs.StreamLaws.{cut_at}
+use Rattle.lucy_results.proofs.OutputLaws.{stream_at}
 use Rattle.lucy_run.specs.Courses.{Program, CanBeRunInBlocks}
 use Rattle.lucy_run.specs.Played.{LinesAgree, LinesByBlock}
-
--- what is made of each number of a list
-made_at : {A : Type 0} (f : ℕ → A) (xs : List ℕ) (i x : ℕ) (d : A) → slice_get xs i ≡ Some x → get_or (map f xs) i d ≡ f x
-made_at f xs i x d e = get_or_from_slice_get (map f xs) i (f x) d (slice_get-map f xs i ∙ ap (option_map f) e)
 
 module _ (p : Program) (can : CanBeRunInBlocks p) where
   -- the word of a result, among those of the outputs
@@ -37,9 +34,9 @@ module _ (p : Program) (can : CanBeRunInBlocks p) where
       lengths = length-map (results_in (main_of p.nodes)) (later_stream p.kinds more p.nodes p.clocks s t) ∙ sym (length-map (results_in (main_of p.nodes)) (main_stream p.kinds more p.nodes p.clocks t));
       each = λ i o e.
           let place = place_at i o e in
-          made_at (later_stream p.kinds more p.nodes p.clocks s t) (results_in (main_of p.nodes)) i place.0 [] place.1
+          stream_at (later_stream p.kinds more p.nodes p.clocks s t) (results_in (main_of p.nodes)) i place.0 [] place.1
           ∙ ap (λ w. drop (ones_to w s) (main_stream p.kinds more p.nodes p.clocks t place.0)) place.2
-          ∙ ap (drop (ones_to o.word s)) (sym (made_at (main_stream p.kinds more p.nodes p.clocks t) (results_in (main_of p.nodes)) i place.0 [] place.1));
+          ∙ ap (drop (ones_to o.word s)) (sym (stream_at (main_stream p.kinds more p.nodes p.clocks t) (results_in (main_of p.nodes)) i place.0 [] place.1));
     }
 
     alike : cut_to s (result_words p.nodes p.clocks) (main_streams p.kinds more p.nodes p.clocks t) ≡ main_streams p.kinds lists p.nodes p.clocks s →

@@ -2,6 +2,7 @@
 use Rattle.std.proofs.Common.{ℕ, ◌<◌, ◌≤◌, ◌≡◌, ◌⊎◌, true, false, List, [], ◌∷◌, ◌++◌, Option, None, Some, length, ap, sym, refl, ◌∙◌, subst, inl, inr, arith}
 use Rattle.std.specs.Prelude.{ℤ, slice_index}
 use Rattle.std.proofs.lemmas.Bool.{cases_lt}
+use Rattle.std.proofs.lemmas.List.{nil_from_length}
 use Rattle.lucy_word.specs.Bits.{Bits}
 use Rattle.lucy_stream.specs.Items.{list_at}
 use Rattle.lucy_stream.specs.Fronts.{AreFronts}
@@ -66,17 +67,13 @@ ends_done words None lists some = absurd (some refl)
 pub words_count : (p : Program) → CanBeRunInBlocks p → length p.inputs ≡ length (words_of p)
 words_count p can = can.inputs ∙ sym (params_count p.nodes p.clocks)
 
-pub no_words : (words : List Bits) → length words ≡ 0 → words ≡ []
-no_words [] l = refl
-no_words (w ∷ words) l = absurd (omega arith)
-
 -- counts of passed items are as many as the words
 pub passed_many : (p : Program) → CanBeRunInBlocks p → (aim : ℕ) (first before now : SeenSource) (reader new : FeedState) (items : List ItemOf) → HasFed (words_of p) aim p.inputs first before reader items → PassesMore before now reader new → (words_of p ≡ [] → ⊥) →
     length new.counts ≡ length (words_of p)
 passed_many p can aim first before now reader new items fed passes some = many_at p.inputs refl
   where
     many_at : (inputs : List InputSpec) → p.inputs ≡ inputs → length new.counts ≡ length (words_of p)
-    many_at [] e = absurd (some (no_words (words_of p) (sym (words_count p can) ∙ ap length e)))
+    many_at [] e = absurd (some (nil_from_length (words_of p) (sym (words_count p can) ∙ ap length e)))
     many_at (input ∷ inputs) e =
         let has = subst (λ xs. HasFed (words_of p) aim xs first before reader items) e fed in
         let (others, bytes, read) = passes (input ∷ inputs) first items has.0 has.1 in
@@ -146,7 +143,7 @@ module _ (p : Program) (can : CanBeRunInBlocks p) (first : SeenSource) (items : 
     over_read some = over_at p.inputs refl
       where
         over_at : (inputs : List InputSpec) → p.inputs ≡ inputs → IsCourseOver p first items c.given c.horizon now result
-        over_at [] e = absurd (some (no_words (words_of p) (sym (words_count p can) ∙ ap length e)))
+        over_at [] e = absurd (some (nil_from_length (words_of p) (sym (words_count p can) ∙ ap length e)))
         over_at (input ∷ inputs) e =
             let fed = subst (λ xs. HasFed (words_of p) c.target xs first before c.reader items) e along.fed in
             let (others, bytes, read) = passes (input ∷ inputs) first items fed.0 fed.1 in

@@ -4,7 +4,7 @@ use Rattle.std.specs.Prelude.{ℤ, slice_get}
 use Rattle.std.proofs.lemmas.List.{take_all}
 use Rattle.std.proofs.lemmas.Option.{slice_get_within}
 use Rattle.lucy_word.specs.Bits.{Bits}
-use Rattle.lucy_word.specs.declared.error.OutOfMemory.{OutOfMemory}
+use Rattle.std.specs.declared.alloc.AllocError.{AllocError}
 use Rattle.lucy_host.specs.declared.kind.HostKind.{HostKind}
 use Rattle.lucy_host.specs.Operators.{Operator, kinds_of}
 use Rattle.lucy_lines.specs.CutLaws.{OneCut, CutInPieces}
@@ -232,7 +232,7 @@ module _ (ops : List Operator) (a : Accepted) (given : Option ℕ) (picks taken 
       ((lists, fault, horizon, fed, by_streams lists fault horizon fed.horizon_is [] (Err e) bad), same)
 
   -- main was fed, and its events were judged
-  pub replay_done : (was now : SeenSink) (result : Result Ending TraceError) (feed : Feed) (answer : Result Feed OutOfMemory) (clocks : List NodeClock) (outputs : List OutputSpec) →
+  pub replay_done : (was now : SeenSink) (result : Result Ending TraceError) (feed : Feed) (answer : Result Feed AllocError) (clocks : List NodeClock) (outputs : List OutputSpec) →
       IsMainFeed a.inputs.items taken stop answer → answer ≡ Ok feed → clocks ≡ a.clocks.items → outputs ≡ a.outputs.items →
       (horizon : ℕ) × IsHorizonOf (param_words a.placed.nodes clocks) given feed.items horizon
       × LeavesJudged (JudgesFrom (first_core ops a feed.items horizon) a.placed.nodes outputs (param_words a.placed.nodes clocks) given feed.items feed.stop picks) was now result →

@@ -1,5 +1,7 @@
 -- A call of `run`, from its course to its end.
 use Rattle.std.proofs.Common.{ℕ, ◌≡◌, List, [], None, Result, Ok, Err, length, ap, sym, refl, ◌∙◌, subst}
+use Rattle.std.proofs.lemmas.List.{nil_from_length}
+use Rattle.std.proofs.lemmas.Result.{MatchResult-at_err, MatchResult-at_ok}
 use Rattle.lucy_host.specs.declared.kind.HostKind.{HostKind}
 use Rattle.lucy_text.specs.Outside.{SeenSource, SeenSink, Writes}
 use Rattle.lucy_lines.specs.declared.output.OutputSpec.{OutputSpec}
@@ -17,7 +19,7 @@ use Rattle.lucy_run.specs.Courses.{CourseView, CanBeRunInBlocks, IsCourseBegun, 
 use Rattle.lucy_run.specs.Played.{HasWritten, AreBlocksWritten, BreaksOff, Plays, LinesAgree, LinesByBlock}
 use Rattle.lucy_run.proofs.OverLaws.{words_count}
 use Rattle.lucy_run.proofs.WriteLaws.{written_first}
-use Rattle.lucy_run.proofs.EndsLaws.{at_ok, at_err, empty_of, program, RunGives, run_whole, run_failed, run_out_of_memory}
+use Rattle.lucy_run.proofs.EndsLaws.{program, RunGives, run_whole, run_failed, run_out_of_memory}
 
 module _ (kinds : List HostKind) (a : Accepted) (pace : Pace) (can : CanBeRunInBlocks (program kinds a pace.instants)) (source : SeenSource) (clocks : List NodeClock) (e : clocks ≡ a.clocks.items) (course : CourseView)
     (begun : IsCourseBegun kinds a.placed.nodes clocks a.inputs.items a.outputs.items pace course) where
@@ -29,7 +31,7 @@ module _ (kinds : List HostKind) (a : Accepted) (pace : Pace) (can : CanBeRunInB
 
   -- of no inputs there are no words
   pub no_inputs : a.inputs.items ≡ [] → course.words ≡ []
-  no_inputs none = empty_of course.words (ap length begun_along.words ∙ sym (words_count (program kinds a pace.instants) can) ∙ ap length none)
+  no_inputs none = nil_from_length course.words (ap length begun_along.words ∙ sym (words_count (program kinds a pace.instants) can) ∙ ap length none)
 
   module _ (first_text : InstantByInstant) (outputs : List OutputSpec) (f : outputs ≡ a.outputs.items) (writer : WriterState) (new : writer ≡ new_writer outputs) (between : SeenSink) where
     begun_written : HasWritten (program kinds a pace.instants) between [] course.horizon between writer
@@ -42,7 +44,7 @@ module _ (kinds : List HostKind) (a : Accepted) (pace : Pace) (can : CanBeRunInB
       -- the course came to its last block
       pub under_way : result ≡ Ok tt → IsCourseUnderWay now last
       under_way is =
-          let (items, on, stopped, lines) = at_ok result tt _ _ is (plays (program kinds a pace.instants) source between [] can begun_along begun_written) in
+          let (items, on, stopped, lines) = MatchResult-at_ok _ _ tt is (plays (program kinds a pace.instants) source between [] can begun_along begun_written) in
           (program kinds a pace.instants, source, items, can, on)
 
       same_given : last.given ≡ pace.instants
@@ -50,18 +52,18 @@ module _ (kinds : List HostKind) (a : Accepted) (pace : Pace) (can : CanBeRunInB
 
       pub last_words : result ≡ Ok tt → a.inputs.items ≡ [] → last.words ≡ []
       last_words is none =
-          let (items, on, stopped, lines) = at_ok result tt _ _ is (plays (program kinds a pace.instants) source between [] can begun_along begun_written) in
-          empty_of last.words (ap length on.words ∙ sym (words_count (program kinds a pace.instants) can) ∙ ap length none)
+          let (items, on, stopped, lines) = MatchResult-at_ok _ _ tt is (plays (program kinds a pace.instants) source between [] can begun_along begun_written) in
+          nil_from_length last.words (ap length on.words ∙ sym (words_count (program kinds a pace.instants) can) ∙ ap length none)
 
       pub some_given : result ≡ Ok tt → (a.inputs.items ≡ [] → pace.instants ≡ None → ⊥) → last.words ≡ [] → last.given ≡ None → ⊥
       some_given is some none absent =
-          let (items, on, stopped, lines) = at_ok result tt _ _ is (plays (program kinds a pace.instants) source between [] can begun_along begun_written) in
-          some (empty_of a.inputs.items (words_count (program kinds a pace.instants) can ∙ ap length (sym on.words ∙ none))) (sym same_given ∙ absent)
+          let (items, on, stopped, lines) = MatchResult-at_ok _ _ tt is (plays (program kinds a pace.instants) source between [] can begun_along begun_written) in
+          some (nil_from_length a.inputs.items (words_count (program kinds a pace.instants) can ∙ ap length (sym on.words ∙ none))) (sym same_given ∙ absent)
 
       module _ (after : SeenSource) (end_is : Ending) (over : EndsOver now after last end_is) (is : result ≡ Ok tt) where
         ended : (items : List _) × IsCourseOver (program kinds a pace.instants) source items pace.instants last.horizon after end_is × HasWritten (program kinds a pace.instants) between items last.horizon out end
         ended =
-            let (items, on, stopped, lines) = at_ok result tt _ _ is (plays (program kinds a pace.instants) source between [] can begun_along begun_written) in
+            let (items, on, stopped, lines) = MatchResult-at_ok _ _ tt is (plays (program kinds a pace.instants) source between [] can begun_along begun_written) in
             (items, subst (λ g. IsCourseOver (program kinds a pace.instants) source items g last.horizon after end_is) same_given (over (program kinds a pace.instants) source items can on stopped), lines)
 
         -- it was run to its end
@@ -72,7 +74,7 @@ module _ (kinds : List HostKind) (a : Accepted) (pace : Pace) (can : CanBeRunInB
 
       off : (e : OutputError) → result ≡ Err e → BreaksOff (program kinds a pace.instants) source between pace.block (most_instants pace.instants) now out e
       off e is =
-          let at = at_err result e _ _ is (plays (program kinds a pace.instants) source between [] can begun_along begun_written) in
+          let at = MatchResult-at_err _ _ e is (plays (program kinds a pace.instants) source between [] can begun_along begun_written) in
           let (given_is, block_is, at_none, along) = begun_here in
           let paced = subst (λ b. BreaksOff (program kinds a pace.instants) source between b (most_instants course.given) now out e) block_is at in
           subst (λ g. BreaksOff (program kinds a pace.instants) source between pace.block (most_instants g) now out e) given_is paced

@@ -3,7 +3,7 @@ use Rattle.std.proofs.Common.{◌≡◌, ℕ, ◌<◌, ◌≤◌, ◌^◌, List,
 use Rattle.std.specs.Prelude.{ℤ, All, codes}
 use Rattle.std.specs.List.{concat}
 use Rattle.lucy_word.specs.Bits.{Bits}
-use Rattle.lucy_word.specs.declared.error.OutOfMemory.{OutOfMemory}
+use Rattle.std.specs.declared.alloc.AllocError.{AllocError}
 use Rattle.lucy_host.specs.Operators.{Operator, kinds_of}
 use Rattle.lucy_lines.specs.declared.reader.TextFault.{TextFault}
 use Rattle.lucy_lines.specs.declared.feeds.Feed.{Feed}
@@ -135,7 +135,7 @@ left_so net words same given feed horizon end was now result e horizon_is ends l
 
 -- main was fed, and its net was traced
 pub trace_done : (a : Accepted) (given : Option ℕ) (taken : List ℕ) (stop : ReadStop) (was now : SeenSink) (result : Ending) (feed : Feed)
-    (answer : Result Feed OutOfMemory)
+    (answer : Result Feed AllocError)
     (clocks : List NodeClock) → IsMainFeed a.inputs.items taken stop answer → answer ≡ Ok feed → clocks ≡ a.clocks.items →
     Leaves a.net (param_words a.placed.nodes clocks) given feed was now result → EndsTrace a given taken stop was now result
 trace_done a given taken stop was now result feed answer clocks fed_so is e left =

@@ -2,7 +2,7 @@
 use Rattle.std.proofs.Common.{ℕ, ◌≡◌, List, [], ◌∷◌, ◌++◌, true, Bool, length, sym, subst, inl, inr}
 use Rattle.lucy_word.specs.Bits.{Bits}
 use Rattle.lucy_text.specs.Outside.{SeenSource}
-use Rattle.lucy_lines.specs.Cuts.{ItemOf, Stop as Halt, with_more, Cut, input_of}
+use Rattle.lucy_lines.specs.Cuts.{ItemOf, Stop as Halt, with_more, Cut, whole_input}
 use Rattle.lucy_lines.specs.CutLaws.{OneCut, CutInPieces, SomeCut}
 use Rattle.lucy_lines.specs.declared.input.InputSpec.{InputSpec}
 use Rattle.lucy_lines.specs.Feeding.{values_by_stream, is_closed}
@@ -14,13 +14,13 @@ use Rattle.lucy_run.proofs.ReadLaws.{suffice_longer, values_front}
 
 module _ (one : OneCut) (some : SomeCut) (pieces : CutInPieces) (turn : ValuesInTurn) (words : List Bits) (aim more : ℕ) where
   -- items that the bytes taken don't have in the end were wanting all along
-  needed_for : (inputs : List InputSpec) (taken : List ℕ) (closed : Bool) (items : List ItemOf) (halt : Halt) → Cut inputs closed (input_of taken) items halt →
+  needed_for : (inputs : List InputSpec) (taken : List ℕ) (closed : Bool) (items : List ItemOf) (halt : Halt) → Cut inputs closed (whole_input taken) items halt →
       (Suffice words (values_by_stream (length inputs) items) aim → ⊥) → IsNeededFor words more inputs taken → IsNeededFor words aim inputs taken
   needed_for inputs taken closed items halt all few (inl none) = inl none
   needed_for inputs taken closed items halt all few (inr (early, late, before, held, parts, short, cut, wanting)) =
       let (others, end, rest) = some inputs closed (with_more held late) in
-      let whole : Cut inputs closed (input_of (early ++ late)) (before ++ others) end = (pieces inputs closed (input_of early) late before).1 held others end cut rest in
-      let same = one inputs closed (input_of taken) items (before ++ others) halt end all (subst (λ bs. Cut inputs closed (input_of bs) (before ++ others) end) (sym parts) whole) in
+      let whole : Cut inputs closed (whole_input (early ++ late)) (before ++ others) end = (pieces inputs closed (whole_input early) late before).1 held others end cut rest in
+      let same = one inputs closed (whole_input taken) items (before ++ others) halt end all (subst (λ bs. Cut inputs closed (whole_input bs) (before ++ others) end) (sym parts) whole) in
       inr (
         early,
         late,

@@ -4,7 +4,7 @@ use Rattle.std.specs.Prelude.{ℤ}
 use Rattle.std.proofs.lemmas.List.{append-nil}
 use Rattle.lucy_text.proofs.OutsideLaws.{followed, AtEnd}
 use Rattle.lucy_text.specs.Outside.{Rose, SeenSource}
-use Rattle.lucy_lines.specs.Cuts.{ItemOf, Held, Stop as Halt, At, Before, Cut, input_of}
+use Rattle.lucy_lines.specs.Cuts.{ItemOf, Held, Stop as Halt, At, Before, Cut, whole_input}
 use Rattle.lucy_lines.specs.CutLaws.{OneCut, CutInPieces}
 use Rattle.lucy_lines.specs.Fronts.{most_bytes}
 use Rattle.lucy_lines.specs.declared.input.InputSpec.{InputSpec}
@@ -49,31 +49,31 @@ refused_at Open (Before held) f well e = absurd (cc e)
 refused_at Drained (Before held) f well e = absurd (cc e)
 
 module _ (cut : OneCut) (pieces : CutInPieces) (inputs : List InputSpec) (before after : SeenSource) (bytes taken : List ℕ) (took : Some bytes ≡ followed taken after.left)
-    (well : Rose before.faults after.faults → ⊥) (items : List ItemOf) (held : Held) (whole : Cut inputs true (input_of bytes) items (Before held)) where
+    (well : Rose before.faults after.faults → ⊥) (items : List ItemOf) (held : Held) (whole : Cut inputs true (whole_input bytes) items (Before held)) where
   -- of the whole input no line is refused
-  none_refused : (others : List ItemOf) (f : TextFault) → Cut inputs true (input_of bytes) others (At f) → ⊥
+  none_refused : (others : List ItemOf) (f : TextFault) → Cut inputs true (whole_input bytes) others (At f) → ⊥
   none_refused others f refused =
-      let one = cut inputs true (input_of bytes) others items (At f) (Before held) refused whole in
+      let one = cut inputs true (whole_input bytes) others items (At f) (Before held) refused whole in
       let apart : At f ≡ Before held = one.1 in
       cc apart
 
   -- so none is of a front of it
-  front_unrefused : (others : List ItemOf) (f : TextFault) → Cut inputs false (input_of taken) others (At f) → ⊥
+  front_unrefused : (others : List ItemOf) (f : TextFault) → Cut inputs false (whole_input taken) others (At f) → ⊥
   front_unrefused others f refused =
       let (rest, left, are) = taken_front bytes taken after.left took in
-      let longer : Cut inputs true (input_of (taken ++ rest)) others (At f) = (pieces inputs true (input_of taken) rest others).0 f refused in
-      none_refused others f (subst (λ bs. Cut inputs true (input_of bs) others (At f)) (sym are) longer)
+      let longer : Cut inputs true (whole_input (taken ++ rest)) others (At f) = (pieces inputs true (whole_input taken) rest others).0 f refused in
+      none_refused others f (subst (λ bs. Cut inputs true (whole_input bs) others (At f)) (sym are) longer)
 
   -- and reading did not stop at one
   unstopped : (stop : ReadStop) (others : List ItemOf) (halt : Halt) (f : TextFault) → (stop ≡ Drained) ⊎ (stop ≡ Open) → StoppedAt most_bytes before after taken stop →
-      Cut inputs (is_closed stop) (input_of taken) others halt → Some f ≡ fault_of stop halt → ⊥
+      Cut inputs (is_closed stop) (whole_input taken) others halt → Some f ≡ fault_of stop halt → ⊥
   unstopped Drained others halt f so stopped is told =
       let at : halt ≡ At f = refused_at Drained halt f (λ e. cc e) told in
       let all : taken ≡ bytes = taken_all bytes taken after.left took stopped.1.0 in
-      none_refused others f (subst (λ bs. Cut inputs true (input_of bs) others (At f)) all (subst (λ h. Cut inputs true (input_of taken) others h) at is))
+      none_refused others f (subst (λ bs. Cut inputs true (whole_input bs) others (At f)) all (subst (λ h. Cut inputs true (whole_input taken) others h) at is))
   unstopped Open others halt f so stopped is told =
       let at : halt ≡ At f = refused_at Open halt f (λ e. cc e) told in
-      front_unrefused others f (subst (λ h. Cut inputs false (input_of taken) others h) at is)
+      front_unrefused others f (subst (λ h. Cut inputs false (whole_input taken) others h) at is)
   unstopped Unread others halt f so stopped is told = absurd (elim so [ inl e ↦ cc e | inr e ↦ cc e ])
   unstopped Ended others halt f so stopped is told = absurd (elim so [ inl e ↦ cc e | inr e ↦ cc e ])
   unstopped Failed others halt f so stopped is told = absurd (elim so [ inl e ↦ cc e | inr e ↦ cc e ])
@@ -81,10 +81,10 @@ module _ (cut : OneCut) (pieces : CutInPieces) (inputs : List InputSpec) (before
 
   -- it met the end, with the same items
   ended_so : (fault : Option TextFault) (stop : ReadStop) (others : List ItemOf) (halt : Halt) → StopsFor fault stop → StoppedAt most_bytes before after taken stop →
-      Cut inputs (is_closed stop) (input_of taken) others halt → fault ≡ fault_of stop halt → (others ≡ items) × (fault ≡ None)
+      Cut inputs (is_closed stop) (whole_input taken) others halt → fault ≡ fault_of stop halt → (others ≡ items) × (fault ≡ None)
   ended_so None Ended others halt so stopped is told =
       let all : taken ≡ bytes = taken_all bytes taken after.left took stopped.1.0 in
-      let same = cut inputs true (input_of bytes) others items halt (Before held) (subst (λ bs. Cut inputs true (input_of bs) others halt) all is) whole in
+      let same = cut inputs true (whole_input bytes) others items halt (Before held) (subst (λ bs. Cut inputs true (whole_input bs) others halt) all is) whole in
       (same.0, refl)
   ended_so None Unread others halt so stopped is told = absurd (cc so)
   ended_so None Failed others halt so stopped is told = absurd (cc so)
@@ -113,7 +113,7 @@ feeds_whole cut pieces (input ∷ inputs) before after taken stop lists others f
     told None e none = absurd none
     told (Some bytes) e (items, halt, feed) =
         let (held, at) = unrefused halt feed.fault in
-        let whole : Cut ins true (input_of bytes) items (Before held) = subst (λ h. Cut ins true (input_of bytes) items h) at feed.cut in
+        let whole : Cut ins true (whole_input bytes) items (Before held) = subst (λ h. Cut ins true (whole_input bytes) items h) at feed.cut in
         let same = ended_so cut pieces ins before after bytes taken (sym e ∙ read.took) well items held whole fault stop fed.0 fed.1 fed.2.stopped read.stopped fed.2.cut fed.2.fault in
         (fed.2.lists ∙ ap (values_by_stream (length ins)) same.0 ∙ sym feed.lists, same.1)
 

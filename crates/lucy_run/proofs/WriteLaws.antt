@@ -1,6 +1,6 @@
 -- The lines of a course, block by block.
 use Rattle.std.proofs.Common.{ℕ, ◌+◌, ◌≤◌, ◌≡◌, List, [], ◌++◌, length, ap, sym, ◌∙◌, subst, inl, inr, arith}
-use Rattle.std.specs.Prelude.{ℤ, Result, Ok, Err, MatchResult, IsErrAnd}
+use Rattle.std.specs.Prelude.{ℤ}
 use Rattle.std.proofs.lemmas.Bool.{cases_lt}
 use Rattle.std.proofs.lemmas.List.{length-map, append-nil}
 use Rattle.lucy_lines.specs.Cuts.{ItemOf}
@@ -8,7 +8,6 @@ use Rattle.lucy_lines.specs.CutLaws.{OneCut, CutInPieces, SomeCut}
 use Rattle.lucy_text.specs.Outside.{SeenSource, SeenSink, Writes, Fails}
 use Rattle.lucy_lines.specs.Resuming.{ValuesInTurn}
 use Rattle.lucy_lines.specs.declared.output.OutputSpec.{OutputSpec}
-use Rattle.lucy_lines.specs.declared.error.OutputError.{OutputError}
 use Rattle.lucy_lines.specs.declared.error.OutputError.TheVariants as error
 use Rattle.lucy_lines.specs.Outputs.{lines_after}
 use Rattle.lucy_lines.specs.OutputLaws.{InstantByInstant}
@@ -23,11 +22,6 @@ use Rattle.lucy_run.specs.Played.{lines_of, HasWritten, BreaksOff, LinesByBlock}
 use Rattle.lucy_run.proofs.ReadLaws.{fed_feeds}
 use Rattle.lucy_run.proofs.SilentLaws.{silent_earlier, silent_lines}
 use Rattle.lucy_run.proofs.WantingLaws.{fed_for}
-
--- of an answer that is an error
-pub breaks_so : {T : Type 0} (r : Result T OutputError) (e : OutputError) (A : T → Type 0) (B : OutputError → Type 0) → IsErrAnd r (λ f. f ≡ e) → B e → MatchResult r A B
-breaks_so (Ok x) e A B is b = absurd is
-breaks_so (Err f) e A B is b = subst B (sym is) b
 
 -- no line was written yet
 pub written_first : InstantByInstant → (p : Program) (writer : WriterState) (horizon : ℕ) → writer ≡ new_writer p.outputs → horizon ≡ 0 → (sink : SeenSink) → HasWritten p sink [] horizon sink writer

@@ -2,7 +2,7 @@
 use Rattle.std.specs.Prelude.{ℕ, ℤ, ◌≤◌, ◌≡◌, ◌⊎◌, List, [], ◌∷◌, ◌++◌, length, Option, Result, IfOk}
 use Rattle.std.specs.Option.{option_map}
 use Rattle.lucy_word.specs.Limits.{limit_number}
-use Rattle.lucy_word.specs.declared.error.OutOfMemory.{OutOfMemory}
+use Rattle.std.specs.declared.alloc.AllocError.{AllocError}
 use Rattle.lucy_word.specs.declared.limit.Limit.TheVariants as limit
 use Rattle.lucy_host.specs.declared.kind.HostKind.{HostKind}
 use Rattle.lucy_host.specs.Operators.{Operator, kinds_of}
@@ -32,7 +32,7 @@ pub record CanBePlayed (operators : List Operator) (a : Accepted) (inputs : List
 
 -- the streams of its results up to the horizon are answered, if any are
 abbrev pub IsPlayedTo : (operators : List Operator) (a : Accepted) (inputs : List (List ℤ)) (instants : ℕ) →
-    Result (List (List ℤ)) OutOfMemory → Type 0
+    Result (List (List ℤ)) AllocError → Type 0
 IsPlayedTo operators a inputs instants answer = IfOk answer (λ lists. lists ≡ main_streams (kinds_of operators) inputs a.placed.nodes
     a.clocks.items instants)
 

@@ -1,8 +1,8 @@
 -- What main is fed by the bytes that were taken from a source.
 use Rattle.std.specs.Prelude.{ℕ, ℤ, ◌≡◌, List, [], ◌∷◌, length, Option, Some, None, Result, Ok, Err, IsSomeAnd}
 use Rattle.lucy_word.specs.Bits.{Bits}
-use Rattle.lucy_word.specs.declared.error.OutOfMemory.{OutOfMemory}
-use Rattle.lucy_lines.specs.Cuts.{ItemOf, Stop as Halt, Cut, input_of}
+use Rattle.std.specs.declared.alloc.AllocError.{AllocError}
+use Rattle.lucy_lines.specs.Cuts.{ItemOf, Stop as Halt, Cut, whole_input}
 use Rattle.lucy_lines.specs.declared.input.InputSpec.{InputSpec}
 use Rattle.lucy_lines.specs.declared.reader.TextFault.{TextFault}
 use Rattle.lucy_lines.specs.declared.reader.TextFault.TheVariants.{ReadFault}
@@ -34,10 +34,10 @@ IsMainInput (input ∷ inputs) left lists = IsSomeAnd left (λ bytes. Feeds (inp
 -- line feed is whole where the end was met, and not where reading was given up before that. Before a read that failed no line is refused.
 abbrev pub LinesFeed : List InputSpec → (taken : List ℕ) → ReadStop → (lists : List (List ℤ)) → Type 0
 LinesFeed inputs taken stop lists =
-    (items : List ItemOf) × (halt : Halt) × Cut inputs (is_closed stop) (input_of taken) items halt
+    (items : List ItemOf) × (halt : Halt) × Cut inputs (is_closed stop) (whole_input taken) items halt
     × (stop ≡ Failed → fault_of stop halt ≡ Some ReadFault) × (lists ≡ values_by_stream (length inputs) items)
 
 -- main was fed so; or memory ran out, and reading was given up
-abbrev pub IsMainFeed : List InputSpec → (taken : List ℕ) → ReadStop → Result Feed OutOfMemory → Type 0
+abbrev pub IsMainFeed : List InputSpec → (taken : List ℕ) → ReadStop → Result Feed AllocError → Type 0
 IsMainFeed inputs taken stop (Ok feed) = Feeds inputs taken stop feed.items feed.stop
 IsMainFeed inputs taken stop (Err e) = stop ≡ Open

@@ -2,11 +2,10 @@
 ghost use Rattle.std.specs.Prelude.{◌≡◌, IfOk};
 
 use lucy_net::{Actor, Actors, Net, RingSpec, Rings};
-use lucy_word::OutOfMemory;
-use std::alloc::Global;
+use std::alloc::{AllocError, Global};
 
 // Equal actors.
-fn copy_actors(alloc: Global, actors: &[Actor]) -> Result<Vec<Actor>, OutOfMemory>
+fn copy_actors(alloc: Global, actors: &[Actor]) -> Result<Vec<Actor>, AllocError>
     ensures { IfOk result (λ copies. copies.items ≡ actors.now) }
 {
     let mut copies = Vec::new(alloc);
@@ -17,7 +16,7 @@ fn copy_actors(alloc: Global, actors: &[Actor]) -> Result<Vec<Actor>, OutOfMemor
 }
 
 // An equal ring.
-fn copy_ring(alloc: Global, ring: &RingSpec) -> Result<RingSpec, OutOfMemory>
+fn copy_ring(alloc: Global, ring: &RingSpec) -> Result<RingSpec, AllocError>
     ensures { IfOk result (λ copy. copy ≡ ring.now) }
 {
     let write = ring.write.copy(alloc)?;
@@ -32,7 +31,7 @@ fn copy_ring(alloc: Global, ring: &RingSpec) -> Result<RingSpec, OutOfMemory>
 }
 
 // Equal rings.
-fn copy_rings(alloc: Global, rings: &[RingSpec]) -> Result<Vec<RingSpec>, OutOfMemory>
+fn copy_rings(alloc: Global, rings: &[RingSpec]) -> Result<Vec<RingSpec>, AllocError>
     ensures { IfOk result (λ copies. copies.items ≡ rings.now) }
 {
     let mut copies = Vec::new(alloc);
@@ -43,7 +42,7 @@ fn copy_rings(alloc: Global, rings: &[RingSpec]) -> Result<Vec<RingSpec>, OutOfM
 }
 
 /// The same net in other memory.
-pub fn copy_net(alloc: Global, net: &Net) -> Result<Net, OutOfMemory>
+pub fn copy_net(alloc: Global, net: &Net) -> Result<Net, AllocError>
     ensures { IfOk result (λ copy. copy ≡ net.now) }
 {
     let actors = Actors::new(copy_actors(alloc, net.actors.list())?);

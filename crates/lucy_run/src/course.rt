@@ -29,9 +29,9 @@ use lucy_net::{Net, Schedule};
 use lucy_place::Placed;
 use lucy_results::{Player, allows_more, horizon, param_words};
 use lucy_text::Source;
-use lucy_word::{Limit, OutOfMemory, Word};
+use lucy_word::{Limit, Word};
 use lucy_worker::Gate;
-use std::alloc::Global;
+use std::alloc::{AllocError, Global};
 use std::marker::Model;
 use std::thread::Threads;
 
@@ -61,7 +61,7 @@ impl<'a> Model for Course<'a> {
 }
 
 // What reads the items of these inputs, and an empty list for each.
-fn unread(alloc: Global, inputs: Vec<InputSpec>) -> Result<(FeedReader, Inputs), OutOfMemory>
+fn unread(alloc: Global, inputs: Vec<InputSpec>) -> Result<(FeedReader, Inputs), AllocError>
     requires { length inputs.items < 2 ^ 32 }
     ensures { IfOk result (λ r. IsUnread inputs.items r.0 r.1) }
 {
@@ -71,7 +71,7 @@ fn unread(alloc: Global, inputs: Vec<InputSpec>) -> Result<(FeedReader, Inputs),
 }
 
 // How many items of each input, of these words, so many instants need.
-fn wanted_at(alloc: Global, words: &[Word], instants: u64) -> Result<Vec<u64>, OutOfMemory>
+fn wanted_at(alloc: Global, words: &[Word], instants: u64) -> Result<Vec<u64>, AllocError>
     ensures { IfOk result (λ wanted. wanted.items ≡ map (λ word. ones_to word instants) words.now) }
 {
     Ok(words.iter().map(|word| word.ones(instants)).collect(alloc)?)
@@ -126,7 +126,7 @@ impl<'a> Course<'a> {
         host: &Host<F>,
         gate: &G,
         pace: Pace,
-    ) -> Result<Course<'a>, OutOfMemory>
+    ) -> Result<Course<'a>, AllocError>
         requires clocked { AreClocked placed.now.nodes clocks.now }
         requires flat { IsFlat placed.now.nodes clocks.now net }
         requires sound { IsSound net (events_at schedule) }
@@ -223,7 +223,7 @@ impl<'a> Course<'a> {
         alloc: Global,
         instants: u64,
         source: &mut I,
-    ) -> Result<(), OutOfMemory>
+    ) -> Result<(), AllocError>
         requires { length self.old.words ≡ length self.old.reader.reader.inputs }
         ensures reads { OnOk result (ReadsOn self.old.words instants (I.seen source.old) (I.seen source.new) self.old.reader self.new.reader) }
         ensures gives_up { OnErr result (GivesUpBehind self.old.words self.old.target (I.seen source.old) (I.seen source.new) self.old.reader) }
@@ -246,7 +246,7 @@ impl<'a> Course<'a> {
         host: &Host<F>,
         gate: &G,
         horizon: u64,
-    ) -> Result<Inputs, OutOfMemory>
+    ) -> Result<Inputs, AllocError>
         requires serves { Serves F.pre F.post host.now }
         requires kinds { kinds_of (lent host.now) ≡ self.old.player.kinds }
         requires can { PlayerCanGoOn self.old.player self.old.reader.fresh horizon }
@@ -274,7 +274,7 @@ impl<'a> Course<'a> {
         host: &Host<F>,
         gate: &G,
         source: &mut I,
-    ) -> Result<Inputs, OutOfMemory>
+    ) -> Result<Inputs, AllocError>
         requires serves { Serves F.pre F.post host.now }
         requires kinds { kinds_of (lent host.now) ≡ self.old.player.kinds }
         requires under_way { IsCourseUnderWay (I.seen source.old) self.old }

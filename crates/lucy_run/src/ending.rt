@@ -3,7 +3,8 @@ ghost use Rattle.std.specs.Prelude.{◌≡◌};
 ghost use Rattle.lucy_run.specs.declared.ending.Ending.TheVariants as ending;
 
 use lucy_lines::TextFault;
-use lucy_word::{Limit, OutOfMemory};
+use lucy_word::Limit;
+use std::alloc::AllocError;
 
 /// How a run ends.
 #[derive(Drop)]
@@ -21,10 +22,10 @@ pub enum Ending {
     OutOfMemory,
 }
 
-impl From<OutOfMemory> for Ending {
+impl From<AllocError> for Ending {
     ghost from_gives = { λ _ e. e ≡ ending.OutOfMemory };
 
-    fn from(_: OutOfMemory) -> Self {
+    fn from(_: AllocError) -> Self {
         Ending::OutOfMemory
     }
 }

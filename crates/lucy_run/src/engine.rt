@@ -6,8 +6,7 @@ ghost use Rattle.lucy_run.specs.Engines.{PlayRequest, CanBePlayed, IsPlayedTo, a
 
 use lucy_host::{Host, Inputs};
 use lucy_program::Accepted;
-use lucy_word::OutOfMemory;
-use std::alloc::Global;
+use std::alloc::{AllocError, Global};
 
 /// Whoever plays accepted programs by hosts with a closure of this type: how it moves the actors of their nets is its own.
 pub trait Engine<F> {
@@ -28,7 +27,7 @@ pub trait Engine<F> {
         inputs: Inputs,
         instants: u64,
         workers: u32,
-    ) -> Result<Inputs, OutOfMemory>
+    ) -> Result<Inputs, AllocError>
         requires plays { plays self.old host.now }
         requires can { CanBePlayed (lent host.now) accepted.now inputs instants workers }
         ensures played { IsPlayedTo (lent host.now) accepted.now inputs instants result }
@@ -42,7 +41,7 @@ pub struct ClosureEngine<C> {
     pub call: C,
 }
 
-impl<F, C: Fn(Global, &Accepted, &Host<F>, Inputs, u64, u32) -> Result<Inputs, OutOfMemory>> Engine<
+impl<F, C: Fn(Global, &Accepted, &Host<F>, Inputs, u64, u32) -> Result<Inputs, AllocError>> Engine<
     F,
 > for ClosureEngine<C> {
     ghost plays = { λ engine host. (alloc : _) (accepted : _) (lender : _) (inputs : _) (instants workers : ℕ) →
@@ -61,7 +60,7 @@ impl<F, C: Fn(Global, &Accepted, &Host<F>, Inputs, u64, u32) -> Result<Inputs, O
         inputs: Inputs,
         instants: u64,
         workers: u32,
-    ) -> Result<Inputs, OutOfMemory> {
+    ) -> Result<Inputs, AllocError> {
         (self.call)(alloc, accepted, host, inputs, instants, workers)
     }
 }

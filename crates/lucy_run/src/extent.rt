@@ -7,8 +7,8 @@ use crate::horizons::{ending_for, most_instants};
 use lucy_host::Inputs;
 use lucy_lines::TextFault;
 use lucy_results::{allows_more, horizon, lengths};
-use lucy_word::{Limit, OutOfMemory, Word};
-use std::alloc::Global;
+use lucy_word::{Limit, Word};
+use std::alloc::{AllocError, Global};
 
 /// How many instants what main is fed allows, and how the run ends behind them.
 #[derive(Drop)]
@@ -26,7 +26,7 @@ pub fn extent_of(
     given: Option<u64>,
     items: &Inputs,
     stop: Option<TextFault>,
-) -> Result<Extent, OutOfMemory>
+) -> Result<Extent, AllocError>
     requires lists { length items.now ≡ length words.now }
     requires few { length words.now < 2 ^ 32 }
     ensures horizon { IfOk result (λ extent. IsHorizonOf words.now given items.now extent.horizon) }

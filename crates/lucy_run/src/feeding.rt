@@ -6,15 +6,14 @@ ghost use Rattle.lucy_run.specs.Calls.{ReadsAndEnds};
 use lucy_host::Inputs;
 use lucy_lines::{Feed, InputSpec, read_feed};
 use lucy_text::Source;
-use lucy_word::OutOfMemory;
-use std::alloc::Global;
+use std::alloc::{AllocError, Global};
 
 /// The items of main's inputs. Where it has none the source is left alone.
 pub fn main_feed<I: Source>(
     alloc: Global,
     inputs: Vec<InputSpec>,
     source: &mut I,
-) -> Result<Feed, OutOfMemory>
+) -> Result<Feed, AllocError>
     requires { length inputs.items < 2 ^ 32 }
     ensures fed { ReadsAndEnds inputs.items (I.seen source.old) (I.seen source.new) (λ taken stop. IsMainFeed inputs.items taken stop result) }
     ensures lists { IfOk result (λ feed. length feed.items ≡ length inputs.items) }

@@ -20,8 +20,7 @@ use lucy_lines::{Feed, InputSpec, OutputError, OutputSpec, write_outputs};
 use lucy_program::{Accepted, accepted_programs_are_clocked};
 use lucy_results::param_words;
 use lucy_text::{Sink, Source, Text};
-use lucy_word::OutOfMemory;
-use std::alloc::Global;
+use std::alloc::{AllocError, Global};
 
 /// What an engine has played: the streams of main's results up to a horizon, and how the run ends once their lines are written.
 #[derive(Drop)]
@@ -32,7 +31,7 @@ pub(crate) struct Played {
 }
 
 // A copy of an input.
-fn copied(alloc: Global, input: &InputSpec) -> Result<InputSpec, OutOfMemory>
+fn copied(alloc: Global, input: &InputSpec) -> Result<InputSpec, AllocError>
     ensures { IfOk result (λ copy. copy ≡ input.now) }
 {
     let name = Text::new(alloc, input.name.bytes())?;
@@ -43,7 +42,7 @@ fn copied(alloc: Global, input: &InputSpec) -> Result<InputSpec, OutOfMemory>
 }
 
 // A copy of the inputs.
-fn copies(alloc: Global, inputs: &[InputSpec]) -> Result<Vec<InputSpec>, OutOfMemory>
+fn copies(alloc: Global, inputs: &[InputSpec]) -> Result<Vec<InputSpec>, AllocError>
     ensures { IfOk result (λ copies. copies.items ≡ inputs.now) }
 {
     let mut copies = Vec::new(alloc);
@@ -62,7 +61,7 @@ fn play_by<N: Engine<F>, F>(
     workers: u32,
     engine: &mut N,
     feed: Feed,
-) -> Result<Played, OutOfMemory>
+) -> Result<Played, AllocError>
     requires plays { N.plays engine.old host.now }
     requires accepted { WasAccepted (lent host.now) accepted.now }
     requires inputs { params_in (main_of accepted.now.placed.nodes) ≡ length feed.items }

@@ -33,11 +33,10 @@ use lucy_program::{Accepted, accepted_programs_are_clocked};
 use lucy_results::{nets_can_be_run, outputs_so_far, param_words};
 use lucy_text::{Sink, Source, write_all};
 use lucy_trace::TraceError;
-use lucy_word::OutOfMemory;
-use std::alloc::Global;
+use std::alloc::{AllocError, Global};
 
 // How many events were done, and whether they are all that there are.
-fn tally(alloc: Global, core: &Core, count: usize) -> Result<Vec<u8>, OutOfMemory>
+fn tally(alloc: Global, core: &Core, count: usize) -> Result<Vec<u8>, AllocError>
     ensures { IfOk result (λ v. IsTally core.now count v.items) }
 {
     let text = if core.finished() {

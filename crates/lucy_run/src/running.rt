@@ -26,13 +26,12 @@ use lucy_lines::{
 };
 use lucy_program::{Accepted, accepted_programs_are_clocked, report};
 use lucy_text::{Sink, Source, write_all};
-use lucy_word::OutOfMemory;
 use lucy_worker::Gate;
-use std::alloc::Global;
+use std::alloc::{AllocError, Global};
 use std::thread::Threads;
 
 // The report and the line `run`.
-fn heading(alloc: Global, accepted: &Accepted) -> Result<Vec<u8>, OutOfMemory>
+fn heading(alloc: Global, accepted: &Accepted) -> Result<Vec<u8>, AllocError>
     requires { (ops : List Operator) × WasAccepted ops accepted.now }
     ensures { IfOk result (λ v. v.items ≡ owes.heading accepted.now) }
 {

@@ -35,8 +35,7 @@ use lucy_program::{Accepted, accepted_programs_are_clocked};
 use lucy_results::{copy_lists, homes_of, nets_can_be_run, param_words};
 use lucy_runner::Runner;
 use lucy_text::{Sink, Source};
-use lucy_word::OutOfMemory;
-use std::alloc::Global;
+use std::alloc::{AllocError, Global};
 
 // A core of a net without an event so far, in memory of its own, on these inputs, of which there are so many. Its schedule is found anew.
 fn second_core(
@@ -46,7 +45,7 @@ fn second_core(
     count: usize,
     ops: &Ops,
     instants: u64,
-) -> Result<Core, OutOfMemory>
+) -> Result<Core, AllocError>
     requires fixed { (schedule : Timetable) × CanMakeCore net.now schedule inputs.now ops.now instants }
     requires count { length inputs.now ≡ count }
     requires few { count < 2 ^ 32 - 1 }
@@ -57,7 +56,7 @@ fn second_core(
     // A net that has a schedule is refused for want of memory alone.
     let schedule = match schedule_of(alloc, &copy) {
         Ok(schedule) => schedule,
-        Err(_) => return Err(OutOfMemory),
+        Err(_) => return Err(AllocError),
     };
     Core::new(alloc, copy, schedule, lists, ops, instants)
 }
@@ -71,7 +70,7 @@ fn new_runner(
     ops: &Ops,
     instants: u64,
     workers: u32,
-) -> Result<Runner, OutOfMemory>
+) -> Result<Runner, AllocError>
     requires fixed { CanMakeCore net schedule inputs ops.now instants }
     requires workers { AreWorkers workers }
     ensures first { IfOk result (λ runner. runner ≡ first_runner (first_seen net schedule inputs ops.now instants) runner.crew) }

@@ -17,6 +17,7 @@ use Rattle.lucy_net.specs.Plans.{form_of, taker}
 use Rattle.lucy_net.specs.States.{IsActorState}
 use Rattle.lucy_core.specs.Seen as core
 use Rattle.lucy_core.proofs.ListLaws.{map_same}
+use Rattle.lucy_core.proofs.SeenLaws.{held_same}
 use Rattle.lucy_worker.specs.declared.part.Part.{Part}
 use Rattle.lucy_worker.specs.Parts.{done_of, state_of, taken_on, IsPartAt}
 use Rattle.lucy_runner.specs.Crews.{part_of}
@@ -26,7 +27,7 @@ use Rattle.lucy_runner.proofs.Rounds.{Round, engine, low, high, taken_in, Goes, 
 use Rattle.lucy_runner.proofs.LowLaws.{wired, local}
 use Rattle.lucy_runner.proofs.HighLaws.{held_high, slots_before}
 use Rattle.lucy_runner.proofs.ReachLaws.{turned_shared, turned_covered, numbers_met}
-use Rattle.lucy_runner.proofs.StandLaws.{next, held_same, same_state, next_within, last, is_last, gave_now, took_now, took_there, puts_same, took_more}
+use Rattle.lucy_runner.proofs.StandLaws.{next, same_state, next_within, last, is_last, gave_now, took_now, took_there, puts_same, took_more}
 
 -- the rings of an actor that has taken or given on them
 takers_own : (x : Round) (a : ℕ) (w : Goes x a) → All (λ r. taker x.seen.net r ≡ a) w.turn.after.actor.takes
@@ -43,11 +44,8 @@ first_own x a output w is =
     let one : operands (form_of w.turn.after.actor.kind) ≡ 1 = ap (λ k. operands (form_of k)) is in
     All-get_or (λ r. taker x.seen.net r ≡ a) w.turn.after.actor.takes 0 0 (omega arith) (takers_own x a w)
 
-abbrev first_of : Actor → ℕ
-first_of o = slice_index_or o.takes 0 0
-
-took_before : (x : Round) (a : ℕ) (w : Goes x a) → TookAsMany w.turn.after.actor.kind (ones_to w.turn.after.actor.firing x.before) (length ((low x).took (first_of w.turn.after.actor)))
-took_before x a w = subst (λ (o : Actor). TookAsMany o.kind (ones_to o.firing x.before) (length ((low x).took (first_of o)))) (sym w.turn.run.actor) w.took
+took_before : (x : Round) (a : ℕ) (w : Goes x a) → TookAsMany w.turn.after.actor.kind (ones_to w.turn.after.actor.firing x.before) (length ((low x).took (core.first_ring w.turn.after.actor)))
+took_before x a w = subst (λ (o : Actor). TookAsMany o.kind (ones_to o.firing x.before) (length ((low x).took (core.first_ring o)))) (sym w.turn.run.actor) w.took
 
 as_many : (most took output : ℕ) (what : ActorKind) → what ≡ kind.Output output → TookAsMany what most took → most ≤ took
 as_many most took output what is took_many = subst (λ k. TookAsMany k most took) is took_many
@@ -56,10 +54,10 @@ same_carried : (x : Round) (a output : ℕ) (w : Goes x a) → w.turn.after.acto
 same_carried x a output w is =
     let o : Actor = w.turn.after.actor in
     let n : ℕ = ones_to o.firing x.before in
-    let r : ℕ = first_of o in
+    let r : ℕ = core.first_ring o in
     let l : n ≤ length ((low x).took r) = as_many n (length ((low x).took r)) output o.kind is (took_before x a w) in
     ap (take n) (took_now x a r w (first_own x a output w is)) ∙ take-append-le n ((low x).took r) (taken_on w.turn.after r) l
-    ∙ ap (λ (v : Actor). take (ones_to v.firing x.before) ((low x).took (first_of v))) w.turn.run.actor
+    ∙ ap (λ (v : Actor). take (ones_to v.firing x.before) ((low x).took (core.first_ring v))) w.turn.run.actor
 
 -- the part stands in the state after the round
 pub last_stands : (x : Round) (a : ℕ) (w : Goes x a) → IsPartAt (kinds_of x.seen.operators) x.seen.inputs x.seen.net x.seen.instants (core.state_of (next x)) (carried (next x) x.before (last x a w)) (last x a w)
@@ -82,8 +80,8 @@ last_stands x a w =
       reads = was.reads;
       state = subst (λ ls. IsActorState q.actor x.seen.instants (done_of q) ls q.state) (sym lists) was.state;
       stands = same_stands (engine x) (state_of (low x) q) (state_of base (last x a w)) q.number (wired x) (local x) same was.stands;
-      output = puts_same q.actor.kind (carried x.seen x.before w.part) (carried (next x) x.before (last x a w)) ((state_of (low x) q).took (first_of q.actor)) ((state_of base (last x a w)).took (first_of q.actor)) q.output.items
-          (λ output is. (same_carried x a output w is, took_there x a (first_of q.actor) w (first_own x a output w is))) was.output;
+      output = puts_same q.actor.kind (carried x.seen x.before w.part) (carried (next x) x.before (last x a w)) ((state_of (low x) q).took (core.first_ring q.actor)) ((state_of base (last x a w)).took (core.first_ring q.actor)) q.output.items
+          (λ output is. (same_carried x a output w is, took_there x a (core.first_ring q.actor) w (first_own x a output w is))) was.output;
     }
 
 took_longer : (x : Round) (r : ℕ) → length ((low x).took r) ≤ length ((core.state_of (next x)).took r)
@@ -100,7 +98,7 @@ actor_again x a l =
       number = ap (λ (y : Part). y.number) (is_last x a w) ∙ w.turn.run.number ∙ w.number;
       stands = subst (λ (y : Part). IsPartAt (kinds_of x.seen.operators) x.seen.inputs x.seen.net x.seen.instants (core.state_of (next x)) (carried (next x) x.before y) y) (sym (is_last x a w)) (last_stands x a w);
       took = subst (λ (y : Part). TookAsMany y.actor.kind (ones_to y.actor.firing x.before) (length (took_first (next x) y))) (sym (is_last x a w))
-          (took_more q.actor.kind (ones_to q.actor.firing x.before) (length ((low x).took (first_of q.actor))) (length ((core.state_of (next x)).took (first_of q.actor))) (took_longer x (first_of q.actor)) (took_before x a w));
+          (took_more q.actor.kind (ones_to q.actor.firing x.before) (length ((low x).took (core.first_ring q.actor))) (length ((core.state_of (next x)).took (core.first_ring q.actor))) (took_longer x (core.first_ring q.actor)) (took_before x a w));
     }
 
 ring_again : (x : Round) (r : ℕ) (ring : RingSpec) → slice_get x.seen.net.rings r ≡ Some ring → HasEnds (next x) x.met x.places x.ends r ring

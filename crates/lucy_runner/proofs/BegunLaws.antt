@@ -84,11 +84,6 @@ none_on f (q ∷ rings) (x ∷ ends) r h =
     let rest : list_on rings (map f ends) r ≡ [] = none_on f rings ends r (λ j y e. h (suc j) y e) in
     elim (eqb q r) as (λ b. cond b (f x) (list_on rings (map f ends) r) ≡ []) [ true ↦ first | false ↦ rest ]
 
--- empty lists taken
-pub none_of_each : (f : ℕ → List ℤ) (xs : List ℕ) → ((r : ℕ) → f r ≡ []) → map f xs ≡ replicate (length xs) []
-none_of_each f [] h = refl
-none_of_each f (x ∷ xs) h = ap (λ y. y ∷ map f xs) (h x) ∙ ap (λ ys. [] ∷ ys) (none_of_each f xs h)
-
 -- nothing was put out
 pub none_out : (what : ActorKind) (front took items : List ℤ) → took ≡ [] → front ≡ [] → items ≡ [] → PutsOut what front took items
 none_out (Output output) front took items t f i = t ∙ sym (ap (λ xs. xs ++ items) f ∙ i)

@@ -1,10 +1,10 @@
 -- Parts on benches.
-use Rattle.std.proofs.Common.{ℕ, suc, zero, ◌+◌, ◌<◌, ◌≤◌, ◌≡◌, Bool, eqb, List, [], ◌∷◌, ◌++◌, map, length, get_or, set, take, drop, ap, sym, refl, ◌∙◌, subst, inl, inr, arith}
+use Rattle.std.proofs.Common.{ℕ, suc, zero, ◌+◌, ◌<◌, ◌≤◌, ◌≡◌, Bool, eqb, List, [], ◌∷◌, ◌++◌, map, length, get_or, set, ap, sym, refl, ◌∙◌, subst, inl, inr, arith}
 use Rattle.std.specs.Prelude.{Some, All, slice_get}
 use Rattle.std.specs.Option.{option_map}
 use Rattle.std.proofs.lemmas.Option.{slice_get-get_or, slice_get-map}
 use Rattle.std.proofs.lemmas.Bool.{cases_eq, eq-eqb, ne_eqb}
-use Rattle.std.proofs.lemmas.List.{append-nil, map-append, map-set, length-set, get_or-set_same, get_or-set_other, take_all, drop_all}
+use Rattle.std.proofs.lemmas.List.{map-append, map-set, length-set, get_or-set_same, get_or-set_other}
 use Rattle.std.proofs.lemmas.List.Elements.{All-head, All-tail}
 use Rattle.lucy_net.specs.Proper.{numbers_where}
 use Rattle.lucy_net.proofs.WhereLaws.{where_yes, where_no}
@@ -35,10 +35,6 @@ bench_more parts n benches places now s d b p place is numbered here l more at e
 -- workers can be made of all benches
 pub benches_work : (parts : List Part) (benches : List Bench) (places : List Place) → ArePlaced parts (length parts) (map benched benches) places → CanWork parts → All (λ b. CanWork (benched b)) benches
 benches_work parts benches places is can = λ k d l. row_works parts (map benched benches) places k (benched (get_or benches k d)) is can (row_here benches k d l)
-
--- what a slice of a whole list leaves of it
-pub slice_back : {X : Type 0} (n : ℕ) (now old : List X) → length now ≡ length old → n ≡ length old → take n (now ++ drop (length now) old) ≡ now
-slice_back n now old len all = ap (λ xs. take n (now ++ xs)) (drop_all (length now) old (omega arith)) ∙ ap (take n) (append-nil now) ∙ take_all n now (omega arith)
 
 -- of the first actors, so many of them, a bench has those whose home it is
 abbrev pub IsManned : List ℕ → ℕ → Bench → Type 0

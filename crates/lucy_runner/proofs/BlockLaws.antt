@@ -12,6 +12,7 @@ use Rattle.lucy_net.specs.Proper.{IsProperRing, IsSupplied}
 use Rattle.lucy_net.specs.Schedules.{Timetable}
 use Rattle.lucy_core.specs.Seen.{Seen, IsOver}
 use Rattle.lucy_core.proofs.ListLaws.{map_same}
+use Rattle.lucy_core.proofs.SeenLaws.{held_same}
 use Rattle.lucy_worker.specs.declared.part.Part.{Part}
 use Rattle.lucy_runner.specs.declared.place.Place.{Place}
 use Rattle.lucy_runner.specs.declared.place.Ends.{Ends}
@@ -22,7 +23,6 @@ use Rattle.lucy_runner.specs.Blocks.{longer_for, longer_inputs, grown_seen}
 use Rattle.lucy_runner.specs.Growths.{HaveGrown}
 use Rattle.lucy_runner.proofs.CrewLaws.{done_is, counts_same, HaveNumbers, still_shared, still_covered}
 use Rattle.lucy_runner.proofs.JoinLaws.{IsGiver, IsTaker, giver_there, taker_there}
-use Rattle.lucy_runner.proofs.StandLaws.{held_same}
 use Rattle.lucy_runner.proofs.Blocks.{Block, then, fixed, Gets, gets, grown_done, items_then}
 use Rattle.lucy_runner.proofs.BlockStates.{first, last, then_within, same_state}
 use Rattle.lucy_runner.proofs.BlockParts.{actor_more}

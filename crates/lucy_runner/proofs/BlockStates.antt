@@ -1,11 +1,8 @@
 -- In a block more the state of the same counts has the same lists.
-use Rattle.std.proofs.Common.{ℕ, ◌+◌, ◌-◌, ◌≤◌, ◌≡◌, Bool, true, false, cond, List, [], ◌∷◌, ◌++◌, map, length, ap, sym, refl, ◌∙◌, subst, inl, inr, arith}
+use Rattle.std.proofs.Common.{ℕ, ◌+◌, ◌≡◌, Bool, true, false, cond, List, [], ◌++◌, length, ap, sym, ◌∙◌, subst, inl, inr, arith}
 use Rattle.std.specs.Prelude.{ℤ}
-use Rattle.std.specs.List.{AllZip}
 use Rattle.std.proofs.lemmas.Bool.{cases_lt}
 use Rattle.std.proofs.lemmas.List.{nil_from_length}
-use Rattle.lucy_word.specs.Bits.{ones_to}
-use Rattle.lucy_word.proofs.ShortLaws.{ones_to-later}
 use Rattle.lucy_host.specs.Operators.{kinds_of}
 use Rattle.lucy_stream.specs.Fronts.{IsFront, AreFronts}
 use Rattle.lucy_stream.specs.Items.{list_at}
@@ -13,7 +10,7 @@ use Rattle.lucy_stream.proofs.FrontLaws.{IsFront-append}
 use Rattle.lucy_stream.specs.Systems.{IsWired}
 use Rattle.lucy_stream.specs.Runs.{Leads, IsWithin, between}
 use Rattle.lucy_stream.specs.States.{Machine, IsLocal, State, events, IsSame, IsState, Reaches}
-use Rattle.lucy_stream.specs.Horizons.{IsLongerTask, IsLongerPlan}
+use Rattle.lucy_stream.specs.Horizons.{IsLongerPlan}
 use Rattle.lucy_stream.specs.Plans.{machine}
 use Rattle.lucy_stream.specs.Totals.{OnlyFirst}
 use Rattle.lucy_stream.proofs.CountedLaws.{within_later}
@@ -23,10 +20,9 @@ use Rattle.lucy_stream.proofs.LongerPlans.{IsLonger-plan, KeepsValues-plan}
 use Rattle.lucy_stream.proofs.PlanLaws.{IsWired-plan, IsLocal-plan}
 use Rattle.lucy_stream.proofs.ReachLaws.{converse}
 use Rattle.lucy_stream.proofs.TotalLaws.{events_counted, total-same}
-use Rattle.lucy_net.specs.declared.net.Actor.{Actor}
-use Rattle.lucy_net.specs.Plans.{task_of, plan, net_system}
+use Rattle.lucy_net.specs.Plans.{plan}
 use Rattle.lucy_net.proofs.BackLaws.{fed}
-use Rattle.lucy_net.proofs.NetLaws.{plugged, only_first}
+use Rattle.lucy_net.proofs.NetLaws.{longer_planned, plugged, only_planned}
 use Rattle.lucy_core.specs.Seen as core
 use Rattle.lucy_core.specs.Seen.{machine_on, done_of}
 use Rattle.lucy_core.proofs.SeenLaws.{IsMachineOf, machine_is, state_is, state_done}
@@ -61,20 +57,8 @@ wired b = IsWired-plan (plan b.seen.net b.instants) (plugged b.seen.net b.instan
 pub local : (b : Block) → IsLocal (long b)
 local b = IsLocal-plan (kinds_of b.seen.operators) (then b).inputs (plan b.seen.net b.instants) (plugged b.seen.net b.instants b.standing.fixed.proper)
 
-longer_tasks : (n m : ℕ) → n ≤ m → (actors : List Actor) → AllZip IsLongerTask (map (task_of n) actors) (map (task_of m) actors)
-longer_tasks n m l [] = tt
-longer_tasks n m l (actor ∷ actors) = (
-  record {
-    form = refl;
-    takes = refl;
-    gives = refl;
-    quota = (let e : ones_to actor.firing (n + (m - n)) ≡ ones_to actor.firing m = ap (ones_to actor.firing) (omega arith) in omega (arith, ones_to-later actor.firing n (m - n)));
-  },
-  longer_tasks n m l actors,
-)
-
 longer_plan : (b : Block) → IsLongerPlan (plan b.seen.net b.seen.instants) (plan b.seen.net b.instants)
-longer_plan b = record { tasks = longer_tasks b.seen.instants b.instants b.later b.seen.net.actors; links = refl }
+longer_plan b = longer_planned b.seen.net b.seen.instants b.instants b.later
 
 -- the inputs go on
 goes_on : (c : Bool) (items added : List ℤ) → IsFront (cond c items []) (cond c (items ++ added) [])
@@ -128,8 +112,8 @@ no_events m s t n picks only same reach =
 
 -- so the lists are the same
 pub same_state : (b : Block) → IsSame (first b) (last b)
-unfolding machine_on net_system
+unfolding machine_on
 same_state b =
     let order : List ℕ = core.order_of (then b) in
-    no_events (long b) (first b) (last b) (length b.seen.net.actors) (between (first b).done (last b).done order) (only_first b.seen.net b.instants) (same_counts b)
+    no_events (long b) (first b) (last b) (length b.seen.net.actors) (between (first b).done (last b).done order) (only_planned b.seen.net b.instants) (same_counts b)
     (converse (long b) (first b) (last b) order (wired b) (local b) (long_is b).whole (stays b) (last_state b) (λ a. omega (arith, same_counts b a)))

@@ -5,6 +5,7 @@ use Rattle.std.proofs.lemmas.Bool.{cases_lt}
 use Rattle.std.proofs.lemmas.Option.{slice_get_within, slice_get-get_or}
 use Rattle.lucy_word.specs.Limits.{limit_number}
 use Rattle.lucy_word.specs.declared.limit.Limit.TheVariants as limit
+use Rattle.lucy_word.proofs.Lists.{get_one}
 use Rattle.lucy_host.specs.Operators.{kinds_of}
 use Rattle.lucy_net.specs.declared.kind.ActorKind.{ActorKind}
 use Rattle.lucy_net.specs.declared.kind.ActorKind.TheVariants as kind
@@ -26,6 +27,7 @@ use Rattle.lucy_runner.specs.Blocks.{longer_for, longer_inputs, grown_seen}
 use Rattle.lucy_runner.specs.Growths.{added_for, HaveGrown}
 use Rattle.lucy_runner.proofs.PlaceLaws.{IsFound, found, part_is, no_part}
 use Rattle.lucy_runner.proofs.InputLaws.{HasListOf, items_are}
+use Rattle.lucy_runner.proofs.SetOutLaws.{list_read}
 
 -- a finished state whose parts were given more to do
 pub record Block : Type 0 where
@@ -102,16 +104,9 @@ grown_done b a = elim (cases_lt a (length b.seen.net.actors)) [
 ]
 
 -- the lists of the inputs, before and then
-old_list : (what : ActorKind) (inputs : List (List ℤ)) (items : List ℤ) → ReadsInput what inputs items → HasListOf (list_at inputs) what items
-old_list (kind.Input n) inputs items reads = reads
-old_list what inputs items reads = tt
-
 new_list : (what : ActorKind) (inputs added : List (List ℤ)) (items more : List ℤ) → ReadsInput what inputs items → more ≡ items ++ added_for what added → HasListOf (λ n. list_at inputs n ++ list_at added n) what more
 new_list (kind.Input n) inputs added items more reads is = is ∙ ap (λ (xs : List ℤ). xs ++ list_at added n) reads
 new_list what inputs added items more reads is = tt
-
-same_actor : (actors : List Actor) (a : ℕ) (x y : Actor) → slice_get actors a ≡ Some x → slice_get actors a ≡ Some y → x ≡ y
-same_actor actors a x y e f = cc
 
 pub items_before : (b : Block) (i : ℕ) → items_of b.crew b.places i ≡ cond (is_read i b.seen.net.actors) (list_at b.seen.inputs i) []
 items_before b i =
@@ -120,8 +115,8 @@ items_before b i =
     record {
       is = w.part;
       there = w.at;
-      same = same_actor b.seen.net.actors a w.part.actor actor w.there e;
-      list = old_list w.part.actor.kind b.seen.inputs w.part.input.items w.stands.reads;
+      same = get_one b.seen.net.actors a w.part.actor actor w.there e;
+      list = list_read w.part.actor.kind b.seen.inputs w.part.input.items w.stands.reads;
     }))
 
 pub items_then : (b : Block) (i : ℕ) → items_of b.grown b.places i ≡ longer_for b.seen.net.actors b.seen.inputs b.added i
@@ -132,7 +127,7 @@ items_then b i =
     record {
       is = w.after;
       there = w.after_at;
-      same = own ∙ same_actor b.seen.net.actors a w.part.actor actor w.there e;
+      same = own ∙ get_one b.seen.net.actors a w.part.actor actor w.there e;
       list = subst (λ (y : Actor). HasListOf (λ n. list_at b.seen.inputs n ++ list_at b.added n) y.kind w.after.input.items) (sym own)
           (new_list w.part.actor.kind b.seen.inputs b.added w.part.input.items w.after.input.items w.stands.reads w.grows.input);
     }))

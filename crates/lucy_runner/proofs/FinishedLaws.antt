@@ -1,5 +1,5 @@
 -- When a runner is finished, and that its rounds lead there.
-use Rattle.std.proofs.Common.{ℕ, suc, zero, ◌+◌, ◌<◌, ◌≤◌, ◌≡◌, ◌++◌, List, length, ap, sym, refl, ◌∙◌, subst, inl, inr, arith}
+use Rattle.std.proofs.Common.{ℕ, ◌+◌, ◌<◌, ◌≡◌, ◌++◌, List, length, ap, sym, refl, ◌∙◌, subst, inl, inr, arith}
 use Rattle.std.specs.Prelude.{◌↔◌, Some, slice_get}
 use Rattle.std.proofs.lemmas.Bool.{cases_lt, cases_eq}
 use Rattle.std.proofs.lemmas.List.{length-map}
@@ -11,10 +11,9 @@ use Rattle.lucy_stream.specs.Totals.{total}
 use Rattle.lucy_stream.proofs.AlikeLaws.{IsRun-same}
 use Rattle.lucy_stream.proofs.CountedLaws.{within_later}
 use Rattle.lucy_stream.proofs.JoinedLaws.{run_joined}
-use Rattle.lucy_stream.proofs.TotalLaws.{events_counted}
+use Rattle.lucy_stream.proofs.TotalLaws.{events_counted, total_le}
 use Rattle.lucy_net.specs.declared.net.Net.{Net}
-use Rattle.lucy_net.specs.Plans.{net_system}
-use Rattle.lucy_net.proofs.NetLaws.{only_first}
+use Rattle.lucy_net.proofs.NetLaws.{only_planned}
 use Rattle.lucy_net.specs.Schedules.{Timetable}
 use Rattle.lucy_core.specs.Seen as core
 use Rattle.lucy_core.specs.Seen.{Seen, CanRun, IsOver, after_picks, machine_on}
@@ -113,14 +112,10 @@ runs_join seen xs ys all first then =
     run_joined (core.machine_of seen).sys (core.done_of seen.done) xs ys first
     (IsRun-same (core.machine_of seen).sys (core.done_of (core.more_done seen.done xs)) (after (core.done_of seen.done) xs) ys (counts_after seen xs all first) then)
 
-total_le : (n : ℕ) (f g : ℕ → ℕ) → ((a : ℕ) → f a ≤ g a) → total n f ≤ total n g
-total_le zero f g h = omega arith
-total_le (suc n) f g h = omega (arith, total_le n f g h, h n)
-
 total_after : (seen : Seen) (picks : List ℕ) → IsSound seen → CanRun seen picks → total (length seen.net.actors) (core.done_of (core.more_done seen.done picks)) ≡ total (length seen.net.actors) (core.done_of seen.done) + length picks
-unfolding machine_on net_system
+unfolding machine_on
 total_after seen picks all run =
-    events_counted (core.machine_of seen).sys (length seen.net.actors) (core.done_of seen.done) (core.done_of (core.more_done seen.done picks)) picks (only_first seen.net seen.instants)
+    events_counted (core.machine_of seen).sys (length seen.net.actors) (core.done_of seen.done) (core.done_of (core.more_done seen.done picks)) picks (only_planned seen.net seen.instants)
     (record { run = run; ends = λ a. sym (counts_after seen picks all run a) })
 
 left_after : (seen : Seen) (picks : List ℕ) → IsSound seen → CanRun seen picks → events_left (after_picks seen picks) + length picks ≡ events_left seen

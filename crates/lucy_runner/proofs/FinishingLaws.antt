@@ -10,8 +10,9 @@ use Rattle.lucy_net.specs.declared.net.Net.{Net}
 use Rattle.lucy_net.specs.Schedules.{Timetable}
 use Rattle.lucy_core.specs.Seen.{IsOver}
 use Rattle.lucy_worker.specs.declared.part.Part.{Part}
-use Rattle.lucy_worker.specs.Parts.{done_of, IsDone}
+use Rattle.lucy_worker.specs.Parts.{IsDone}
 use Rattle.lucy_worker.specs.Turns.{HaveRun, done_by}
+use Rattle.lucy_worker.proofs.Runs.{sums_le}
 use Rattle.lucy_runner.specs.declared.place.Place.{Place}
 use Rattle.lucy_runner.specs.declared.place.Ends.{Ends}
 use Rattle.lucy_runner.specs.declared.seat.Seat.{Seat}
@@ -23,16 +24,6 @@ use Rattle.lucy_runner.proofs.TurningLaws.{crew_get, done_at}
 use Rattle.lucy_runner.proofs.FinishedLaws.{AreDone, over}
 use Rattle.lucy_runner.proofs.StandingLaws.{back_in, written_back}
 
--- parts that have run have done no less
-sums_more : (ps qs : List Part) → length qs ≡ length ps → ((k : ℕ) (d : Part) → k < length ps →
-    done_of (get_or ps k d) ≤ done_of (get_or qs k d)) → done_by ps ≤ done_by qs
-sums_more [] qs len more = omega arith
-sums_more (p ∷ ps) [] len more = absurd (omega arith)
-sums_more (p ∷ ps) (q ∷ qs) len more =
-    let one : done_of p ≤ done_of q = more 0 p (omega arith) in
-    let rest : done_by ps ≤ done_by qs = sums_more ps qs (omega arith) (λ k d l. more (suc k) d (omega arith)) in
-    omega (arith, one, rest, sum_by-cons done_of p ps, sum_by-cons done_of q qs)
-
 crew_more : (kinds : List HostKind) (before after : List Seat) → length after ≡ length before →
     ((k : ℕ) (d : Seat) → k < length before → HaveRun kinds (seated (get_or before k d)) (seated (get_or after k d))) →
     sum_by done_by (crew_of before) ≤ sum_by done_by (crew_of after)
@@ -40,7 +31,7 @@ crew_more kinds [] after len each = omega arith
 crew_more kinds (x ∷ before) [] len each = absurd (omega arith)
 crew_more kinds (x ∷ before) (y ∷ after) len each =
     let run : HaveRun kinds (seated x) (seated y) = each 0 x (omega arith) in
-    let one : done_by (seated x) ≤ done_by (seated y) = sums_more (seated x) (seated y) run.as_many (λ k d l. (run.run k d l).further) in
+    let one : done_by (seated x) ≤ done_by (seated y) = sums_le (seated x) (seated y) run.as_many (λ k d l. (run.run k d l).further) in
     let rest : sum_by done_by (crew_of before) ≤ sum_by done_by (crew_of after) =
     crew_more kinds before after (omega arith) (λ k d l. each (suc k) d (omega arith)) in
     omega (arith, one, rest, sum_by-cons done_by (seated x) (crew_of before), sum_by-cons done_by (seated y) (crew_of after))

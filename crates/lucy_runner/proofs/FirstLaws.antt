@@ -1,16 +1,17 @@
 -- What was made stands in the state of a core without an event.
 use Rattle.std.proofs.Common.{ℕ, suc, zero, ◌+◌, ◌<◌, ◌≡◌, true, eqb, List, [], ◌++◌, map, length, drop, take, ap, sym, refl, ◌∙◌, subst, arith}
-use Rattle.std.specs.Prelude.{ℤ, Some, slice_get, slice_index, slice_index_or, replicate}
+use Rattle.std.specs.Prelude.{ℤ, Some, slice_get, slice_index_or, replicate}
 use Rattle.std.proofs.lemmas.Bool.{eq-eqb}
 use Rattle.std.proofs.lemmas.Option.{slice_get_within}
 use Rattle.lucy_word.specs.Bits.{ones_to}
 use Rattle.lucy_word.proofs.BitsLaws.{ones_to-none}
 use Rattle.lucy_host.specs.declared.kind.HostKind.{HostKind}
 use Rattle.lucy_host.specs.Operators.{Operator, kinds_of}
+use Rattle.lucy_host.proofs.Elements.{get_there}
 use Rattle.lucy_stream.specs.Forms.{operands}
 use Rattle.lucy_stream.specs.States.{Machine, State, start, held, IsSame}
 use Rattle.lucy_stream.specs.Actors.{StandsAs}
-use Rattle.lucy_stream.specs.Plans.{Link, no_link, machine}
+use Rattle.lucy_stream.specs.Plans.{machine}
 use Rattle.lucy_stream.proofs.ActorLaws.{each_stands, same_stands}
 use Rattle.lucy_stream.proofs.CountedLaws.{none_within, counted_none}
 use Rattle.lucy_stream.proofs.StateLaws.{IsState-start}
@@ -19,14 +20,16 @@ use Rattle.lucy_net.specs.declared.kind.ActorKind.TheVariants.{Input, Lit, Op, H
 use Rattle.lucy_net.specs.declared.net.Actor.{Actor}
 use Rattle.lucy_net.specs.declared.net.RingSpec.{RingSpec}
 use Rattle.lucy_net.specs.declared.net.Net.{Net}
-use Rattle.lucy_net.specs.Plans.{form_of, link_of, plan}
+use Rattle.lucy_net.specs.Plans.{form_of, giver, taker, plan}
 use Rattle.lucy_net.specs.Proper.{IsProper}
 use Rattle.lucy_net.specs.States.{IsActorState, ReadsInput}
-use Rattle.lucy_net.proofs.NetLaws.{plugged, usable}
+use Rattle.lucy_net.proofs.NetLaws.{from_here, to_here, plugged, usable}
 use Rattle.lucy_net.specs.Schedules.{Timetable}
 use Rattle.lucy_core.specs.Seen.{Seen, machine_on, order_on, done_of, state_on, machine_of, state_of, CanMakeCore, first_seen}
 use Rattle.lucy_core.proofs.SeenLaws.{IsMachineOf, machine_is}
 use Rattle.lucy_ring.specs.Views.{GiverView, TakerView}
+use Rattle.lucy_core.proofs.CursorLaws.{zero_at}
+use Rattle.lucy_core.proofs.MakeLaws.{none_of_each}
 use Rattle.lucy_worker.specs.declared.part.Part.{Part}
 use Rattle.lucy_worker.specs.Parts.{given_on, taken_on, IsPartAt, done_of as part_done, state_of as part_state}
 use Rattle.lucy_runner.specs.declared.place.Place.{Place}
@@ -35,20 +38,9 @@ use Rattle.lucy_runner.specs.Views.{inputs_for}
 use Rattle.lucy_runner.specs.Crews.{seen_by, IsJoined}
 use Rattle.lucy_runner.specs.Standing.{took_first, carried, TookAsMany, IsStanding}
 use Rattle.lucy_runner.specs.Making.{rings_from, rings_to, AreNewEnds, IsBegun, HasEndsOf, AreMade}
-use Rattle.lucy_runner.proofs.PlacingLaws.{get_there}
-use Rattle.lucy_runner.proofs.JoiningLaws.{link_here, row_at, row_all, where_at, given_none, taken_none}
-use Rattle.lucy_runner.proofs.BegunLaws.{own_state, none_done, none_on, none_of_each, none_out}
+use Rattle.lucy_runner.proofs.JoiningLaws.{row_at, row_all, where_at, given_none, taken_none}
+use Rattle.lucy_runner.proofs.BegunLaws.{own_state, none_done, none_on, none_out}
 use Rattle.lucy_runner.proofs.SetOutLaws.{sets_out, reads_seen, fixed_seen, first_is}
-
--- the state of a core without an event
-zeros_at : (n a : ℕ) → slice_index (replicate n 0) a ≡ 0
-zeros_at zero a = refl
-zeros_at (suc n) zero = refl
-zeros_at (suc n) (suc a) = zeros_at n a
-
-zero_at : (n a : ℕ) → done_of (replicate n 0) a ≡ 0
-unfolding done_of
-zero_at n a = zeros_at n a
 
 -- the machine of a net, and its state before any event
 pub record IsFirstState (net : Net) (inputs : List (List ℤ)) (kinds : List HostKind) (instants : ℕ) (s : State) : Type 0 where
@@ -122,14 +114,14 @@ ring_joined net inputs instants crew places ends made proper r ring here =
     let (t, t_is) = get_there made.joined.takers r (omega arith) in
     let new : AreNewEnds ring g t = made.joined.new r ring g t here g_is t_is in
     let place = made.joined.at r ring at here at_is in
-    let own_from : eqb (slice_index_or (map link_of net.rings) r no_link).from ring.from ≡ true = ap (λ (y : Link). eqb y.from ring.from) (link_here net.rings r ring here) ∙ eq-eqb ring.from ring.from refl in
-    let own_to : eqb (slice_index_or (map link_of net.rings) r no_link).to ring.to ≡ true = ap (λ (y : Link). eqb y.to ring.to) (link_here net.rings r ring here) ∙ eq-eqb ring.to ring.to refl in
+    let own_from : eqb (giver net r) ring.from ≡ true = eq-eqb (giver net r) ring.from (from_here net r ring here) in
+    let own_to : eqb (taker net r) ring.to ≡ true = eq-eqb (taker net r) ring.to (to_here net r ring here) in
     let gives : slice_get is.giver.gives at.giver ≡ Some r =
     ap (λ xs. slice_get xs at.giver) (proper.actors ring.from is.giver is.gives_here).gives ∙ ap (slice_get (rings_from net.rings ring.from (length net.rings))) place.0
-    ∙ where_at (λ q. eqb (slice_index_or (map link_of net.rings) q no_link).from ring.from) (length net.rings) r l own_from in
+    ∙ where_at (λ q. eqb (giver net q) ring.from) (length net.rings) r l own_from in
     let takes : slice_get is.taker.takes at.taker ≡ Some r =
     ap (λ xs. slice_get xs at.taker) (proper.actors ring.to is.taker is.takes_here).takes ∙ ap (slice_get (rings_to net.rings ring.to (length net.rings))) place.1
-    ∙ where_at (λ q. eqb (slice_index_or (map link_of net.rings) q no_link).to ring.to) (length net.rings) r l own_to in (
+    ∙ where_at (λ q. eqb (taker net q) ring.to) (length net.rings) r l own_to in (
       record {
         at = at;
         ends_at = at_is;

@@ -8,12 +8,11 @@ use Rattle.lucy_stream.specs.Fronts.{IsFront}
 use Rattle.lucy_stream.proofs.FrontLaws.{IsFront-cut}
 use Rattle.lucy_stream.specs.States.{State, held, IsState}
 use Rattle.lucy_stream.specs.Actors.{StandsAs, IsSameAt}
-use Rattle.lucy_stream.specs.Plans.{Link}
 use Rattle.lucy_stream.proofs.ActorLaws.{all_stand, each_stands, same_stands}
 use Rattle.lucy_net.specs.declared.net.Actor.{Actor}
 use Rattle.lucy_net.specs.declared.net.RingSpec.{RingSpec}
 use Rattle.lucy_net.specs.Plans.{giver, taker}
-use Rattle.lucy_net.proofs.NetLaws.{link_is, from_here, to_here, gives_there, takes_there, ring_cases}
+use Rattle.lucy_net.proofs.NetLaws.{from_here, to_here, size_here, gives_there, takes_there, ring_cases}
 use Rattle.lucy_ring.specs.Views.{RingName}
 use Rattle.lucy_worker.specs.declared.part.Part.{Part}
 use Rattle.lucy_worker.specs.Rounds.{IsIn}
@@ -103,7 +102,7 @@ high_fits x r = elim (ring_cases x.seen.net r) [
         ap (λ (xs : List ℤ). length xs) (gave_high x r here.0 w here.1),
         ap (λ (xs : List ℤ). length xs) (took_high x r here.0 w here.1),
         slots_before x r here.0 w,
-        ap (λ (l : Link). l.size) (link_is x.seen.net x.seen.instants r here.0 here.1),
+        size_here x.seen.net x.seen.instants r here.0 here.1,
       )
   | inr past ↦
       let same = same_past x r past in

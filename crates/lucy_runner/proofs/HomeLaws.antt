@@ -8,7 +8,7 @@ use Rattle.std.proofs.lemmas.Map.Keys.{any_passes_from_place}
 use Rattle.std.proofs.lemmas.List.Elements.{All-push, All-map, All-get_or}
 use Rattle.std.proofs.lemmas.Option.{slice_get-get_or, slice_get_within, get_or_from_slice_get}
 use Rattle.lucy_net.specs.Proper.{numbers_where}
-use Rattle.lucy_net.proofs.WhereLaws.{where_all, where_yes, where_no}
+use Rattle.lucy_net.proofs.WhereLaws.{where_all, where_yes, where_no, where_same}
 use Rattle.lucy_core.proofs.ListLaws.{get_push, get_set_other}
 use Rattle.lucy_worker.proofs.WithinLaws.{get_set}
 use Rattle.lucy_worker.specs.declared.part.Part.{Part}
@@ -57,10 +57,6 @@ where_below : (p : ℕ → Bool) (n s r : ℕ) → slice_get (numbers_where p n)
 where_below p n s r e =
     let xs : List ℕ = numbers_where p n in
     subst (λ q. q < n) (get_or_from_slice_get xs s r r e) (All-get_or (λ q. q < n) xs s r (slice_get_within xs s r e) (where_all (λ q. q < n) p n (λ q l y. l)))
-
-where_alike : (p q : ℕ → Bool) (n : ℕ) → ((r : ℕ) → r < n → p r ≡ q r) → numbers_where p n ≡ numbers_where q n
-where_alike p q zero h = refl
-where_alike p q (suc n) h = ap (λ xs. xs ++ cond (p n) (n ∷ []) []) (where_alike p q n (λ r l. h r (omega arith))) ∙ ap (λ c. numbers_where q n ++ cond c (n ∷ []) []) (h n (omega arith))
 
 -- the number of a home's seat is that of the used homes before it
 pub places_more : (p : ℕ → Bool) (n : ℕ) (numbers : List ℕ) (count : ℕ) → length numbers ≡ n → count ≡ length (numbers_where p n) → ((h : ℕ) → h < n → get_or numbers h 0 ≡ length (numbers_where p h)) →
@@ -126,7 +122,7 @@ used_is used homes home l all only = elim (cases_Bool (is_used used home)) [
 pub crew_here : (used : List Bool) (homes : List ℕ) (hall : Hall) (workers : ℕ) → HaveSeats used hall → length used ≡ workers → All (λ h. slice_get used h ≡ Some true) homes → ((h : ℕ) → slice_get used h ≡ Some true → is_home homes h ≡ true) →
     map (at_home homes) (homes_in hall.benches.items) ≡ crew_by workers homes
 crew_here used homes hall workers has len all only =
-    ap (map (at_home homes)) (has.homes ∙ where_alike (is_used used) (is_home homes) (length used) (λ r l. used_is used homes r l all only) ∙ ap (numbers_where (is_home homes)) len)
+    ap (map (at_home homes)) (has.homes ∙ where_same (is_used used) (is_home homes) (length used) (λ r l. used_is used homes r l all only) ∙ ap (numbers_where (is_home homes)) len)
 
 -- one home more that is used
 pub only_more : (used : List Bool) (homes : List ℕ) (i : ℕ) → i < length homes → ((home : ℕ) → slice_get used home ≡ Some true → is_home homes home ≡ true) →

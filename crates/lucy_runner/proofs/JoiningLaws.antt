@@ -8,21 +8,17 @@ use Rattle.std.proofs.lemmas.List.{map-append, length-map}
 use Rattle.std.proofs.lemmas.List.Elements.{All-head, All-tail, All-get_or}
 use Rattle.lucy_word.specs.Limits.{limit_number}
 use Rattle.lucy_word.specs.declared.limit.Limit.TheVariants as limit
-use Rattle.lucy_stream.specs.Plans.{Link, no_link}
+use Rattle.lucy_word.proofs.Lists.{still_there}
+use Rattle.lucy_host.proofs.Elements.{get_there, get_last}
 use Rattle.lucy_net.specs.declared.net.RingSpec.{RingSpec}
-use Rattle.lucy_net.specs.Plans.{link_of}
 use Rattle.lucy_net.specs.Proper.{numbers_where}
+use Rattle.lucy_net.proofs.NetLaws.{number_at}
 use Rattle.lucy_net.proofs.WhereLaws.{where_all, where_length}
 use Rattle.lucy_core.proofs.ListLaws.{get_push, some_same}
 use Rattle.lucy_ring.specs.Views.{GiverView, TakerView}
 use Rattle.lucy_worker.specs.declared.part.Part.{Part}
 use Rattle.lucy_runner.specs.declared.place.Ends.{Ends}
 use Rattle.lucy_runner.specs.Making.{rings_from, rings_to, AreNewEnds, HasGained, HaveJoined, AreEndsOf, HasEndsOf, HaveAllJoined, HasFewEnds, end_for}
-use Rattle.lucy_runner.proofs.PlacingLaws.{get_left, get_last, get_there}
-
--- a ring by its number among the links
-pub link_here : (rings : List RingSpec) (r : ℕ) (ring : RingSpec) → slice_get rings r ≡ Some ring → slice_index_or (map link_of rings) r no_link ≡ link_of ring
-link_here rings r ring e = get_or_from_slice_get (map link_of rings) r (link_of ring) no_link (slice_get-map link_of rings r ∙ ap (option_map link_of) e)
 
 pub map_alike : {X : Type 0} (f g : ℕ → X) (xs : List ℕ) → All (λ r. f r ≡ g r) xs → map f xs ≡ map g xs
 map_alike f g [] all = refl
@@ -39,7 +35,7 @@ ends_yes : {X : Type 0} (all : List X) (row : List X) (p : ℕ → Bool) (n : �
 ends_yes all row p n x b len here is =
     let kept : map (slice_get all) (numbers_where p n) ≡ map (slice_get (all ++ x ∷ [])) (numbers_where p n) =
     map_alike (slice_get all) (slice_get (all ++ x ∷ [])) (numbers_where p n) (where_all (λ r. slice_get all r ≡ slice_get (all ++ x ∷ []) r) p n
-    (λ r l y. let (z, e) = get_there all r (omega (arith, l, len)) in e ∙ sym (get_left all (x ∷ []) r z e))) in
+    (λ r l y. let (z, e) = get_there all r (omega (arith, l, len)) in e ∙ sym (still_there all (x ∷ []) r z e))) in
     let old : map Some row ≡ map (slice_get (all ++ x ∷ [])) (numbers_where p n) = is ∙ kept in
     let last : slice_get (all ++ x ∷ []) n ≡ Some x = ap (slice_get (all ++ x ∷ [])) (sym len) ∙ get_last all x in
     let tail : map Some (cond b (x ∷ []) []) ≡ map (slice_get (all ++ x ∷ [])) (cond b (n ∷ []) []) =
@@ -79,12 +75,12 @@ gained : (rings : List RingSpec) (n a : ℕ) (ring : RingSpec) (gs : List GiverV
     HasEndsOf gs ts (rings_from rings a n) (rings_to rings a n) p m → HasGained m (end_for ring.from a g) (end_for ring.to a t) q →
     HasEndsOf (gs ++ g ∷ []) (ts ++ t ∷ []) (rings_from rings a (n + 1)) (rings_to rings a (n + 1)) p q
 gained rings n a ring gs ts g t p m q len here old more =
-    let from : eqb (slice_index_or (map link_of rings) n no_link).from a ≡ eqb ring.from a = ap (λ (l : Link). eqb l.from a) (link_here rings n ring here) in
-    let to : eqb (slice_index_or (map link_of rings) n no_link).to a ≡ eqb ring.to a = ap (λ (l : Link). eqb l.to a) (link_here rings n ring here) in
+    let from : eqb (slice_index_or (map (λ (x : RingSpec). x.from) rings) n 0) a ≡ eqb ring.from a = ap (λ b. eqb b a) (number_at (λ x. x.from) rings n ring here) in
+    let to : eqb (slice_index_or (map (λ (x : RingSpec). x.to) rings) n 0) a ≡ eqb ring.to a = ap (λ b. eqb b a) (number_at (λ x. x.to) rings n ring here) in
     record {
       rest = more.rest ∙ ap (λ (x : Part). record x { givers = q.givers; takers = q.takers }) old.rest;
-      givers_are = subst (AreEndsOf (gs ++ g ∷ []) (rings_from rings a (n + 1))) (sym more.givers_on) (ends_yes gs m.givers.items (λ r. eqb (slice_index_or (map link_of rings) r no_link).from a) n g (eqb ring.from a) len.0 from old.givers_are);
-      takers_are = subst (AreEndsOf (ts ++ t ∷ []) (rings_to rings a (n + 1))) (sym more.takers_on) (ends_yes ts m.takers.items (λ r. eqb (slice_index_or (map link_of rings) r no_link).to a) n t (eqb ring.to a) len.1 to old.takers_are);
+      givers_are = subst (AreEndsOf (gs ++ g ∷ []) (rings_from rings a (n + 1))) (sym more.givers_on) (ends_yes gs m.givers.items (λ r. eqb (slice_index_or (map (λ (x : RingSpec). x.from) rings) r 0) a) n g (eqb ring.from a) len.0 from old.givers_are);
+      takers_are = subst (AreEndsOf (ts ++ t ∷ []) (rings_to rings a (n + 1))) (sym more.takers_on) (ends_yes ts m.takers.items (λ r. eqb (slice_index_or (map (λ (x : RingSpec). x.to) rings) r 0) a) n t (eqb ring.to a) len.1 to old.takers_are);
     }
 
 -- the ends of the ring that was made last, and those of the others
@@ -175,8 +171,8 @@ few_on_the_way rings n before now ends all few = λ a d l.
     let (m, m_is) = get_there now a l in
     let (p, p_is) = get_there before a (omega arith) in
     let have = all.each a p m p_is m_is in
-    let from : length m.givers.items ≤ limit_number limit.Rings = omega (arith, row_length all.givers (rings_from rings a n) m.givers.items have.givers_are, where_length (λ r. eqb (slice_index_or (map link_of rings) r no_link).from a) n) in
-    let to : length m.takers.items ≤ limit_number limit.Rings = omega (arith, row_length all.takers (rings_to rings a n) m.takers.items have.takers_are, where_length (λ r. eqb (slice_index_or (map link_of rings) r no_link).to a) n) in
+    let from : length m.givers.items ≤ limit_number limit.Rings = omega (arith, row_length all.givers (rings_from rings a n) m.givers.items have.givers_are, where_length (λ r. eqb (slice_index_or (map (λ (x : RingSpec). x.from) rings) r 0) a) n) in
+    let to : length m.takers.items ≤ limit_number limit.Rings = omega (arith, row_length all.takers (rings_to rings a n) m.takers.items have.takers_are, where_length (λ r. eqb (slice_index_or (map (λ (x : RingSpec). x.to) rings) r 0) a) n) in
     subst HasFewEnds (sym (get_or_from_slice_get now a m d m_is)) (from, to)
 
 -- of the numbers where a test holds, one stands behind those below it
@@ -186,7 +182,7 @@ where_at p (suc n) r l holds = elim (cases_eq r n) [
   | inl same ↦
       let one : numbers_where p (suc n) ≡ numbers_where p n ++ n ∷ [] = ap (λ c. numbers_where p n ++ cond c (n ∷ []) []) (ap p (sym same) ∙ holds) in
       ap (λ xs. slice_get xs (length (numbers_where p r))) one ∙ ap (λ k. slice_get (numbers_where p n ++ n ∷ []) (length (numbers_where p k))) same ∙ get_last (numbers_where p n) n ∙ ap Some (sym same)
-  | inr other ↦ get_left (numbers_where p n) (cond (p n) (n ∷ []) []) (length (numbers_where p r)) r (where_at p n r (omega arith) holds)
+  | inr other ↦ still_there (numbers_where p n) (cond (p n) (n ∷ []) []) (length (numbers_where p r)) r (where_at p n r (omega arith) holds)
 ]
 
 -- nothing was given or taken on the ends that were made

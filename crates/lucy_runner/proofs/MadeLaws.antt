@@ -1,24 +1,24 @@
 -- The parts of all actors with the ends of all rings.
-use Rattle.std.proofs.Common.{ℕ, suc, zero, ◌+◌, ◌<◌, ◌≤◌, ◌≡◌, Bool, true, false, cond, eqb, List, [], ◌∷◌, map, length, get_or, ap, sym, refl, ◌∙◌, subst, inl, inr, arith, length-append}
-use Rattle.std.specs.Prelude.{ℤ, Some, All, slice_get, slice_index_or}
+use Rattle.std.proofs.Common.{ℕ, suc, zero, ◌+◌, ◌<◌, ◌≤◌, ◌≡◌, Bool, true, false, cond, eqb, List, [], ◌∷◌, length, get_or, ap, sym, refl, ◌∙◌, subst, inl, inr, arith, length-append}
+use Rattle.std.specs.Prelude.{ℤ, Some, All, slice_get}
 use Rattle.std.proofs.lemmas.Bool.{cases_eq, eq-eqb, ne_eqb}
 use Rattle.std.proofs.lemmas.Option.{slice_get_within, slice_get-get_or}
 use Rattle.lucy_word.specs.Limits.{limit_number}
 use Rattle.lucy_word.specs.declared.limit.Limit.TheVariants as limit
+use Rattle.lucy_host.proofs.Elements.{get_there}
 use Rattle.lucy_stream.specs.Totals.{total}
-use Rattle.lucy_stream.specs.Plans.{no_link}
 use Rattle.lucy_net.specs.declared.net.Actor.{Actor}
 use Rattle.lucy_net.specs.declared.net.RingSpec.{RingSpec}
 use Rattle.lucy_net.specs.declared.net.Net.{Net}
-use Rattle.lucy_net.specs.Plans.{link_of}
+use Rattle.lucy_net.specs.Plans.{giver, taker}
 use Rattle.lucy_net.specs.Proper.{numbers_where, IsProper, IsProperActor, IsSupplied}
 use Rattle.lucy_net.proofs.NetLaws.{usable}
 use Rattle.lucy_ring.specs.Views.{GiverView, TakerView}
+use Rattle.lucy_stream.proofs.TotalLaws.{total-same}
 use Rattle.lucy_worker.specs.declared.part.Part.{Part}
 use Rattle.lucy_worker.specs.News.{IsNew, ends_of, ends_by, most_ends}
 use Rattle.lucy_runner.specs.declared.place.Ends.{Ends}
 use Rattle.lucy_runner.specs.Making.{rings_from, rings_to, IsBegun, IsFirstPart, AreFirstParts, HasEndsOf, HaveAllJoined, AreNumbered, CanWork}
-use Rattle.lucy_runner.proofs.PlacingLaws.{get_there}
 use Rattle.lucy_runner.proofs.WorkingLaws.{value_in, sum_all}
 use Rattle.lucy_runner.proofs.JoiningLaws.{row_length, given_none, taken_none}
 use Rattle.lucy_runner.proofs.BegunLaws.{begun_still, begun_new}
@@ -64,10 +64,6 @@ numbered_all net inputs instants alone parts ends proper first joined a q e =
     ap (λ (x : Part). x.number) (sym it) ∙ (out_begun inputs instants parts joined.givers joined.takers a actor out).is
 
 -- sums over numbers
-total_same : (n : ℕ) (f g : ℕ → ℕ) → ((a : ℕ) → a < n → f a ≡ g a) → total n f ≡ total n g
-total_same zero f g h = refl
-total_same (suc n) f g h = omega (arith, total_same n f g (λ a l. h a (omega arith)), h n (omega arith))
-
 total_both : (n : ℕ) (f g : ℕ → ℕ) → total n (λ a. f a + g a) ≡ total n f + total n g
 total_both zero f g = refl
 total_both (suc n) f g = omega (arith, total_both n f g)
@@ -100,7 +96,7 @@ rows_total : (f : ℕ → ℕ) (k n : ℕ) → total k (λ a. length (numbers_wh
 rows_total f k zero = omega (arith, zeros k)
 rows_total f k (suc n) =
     let more : total k (λ a. length (numbers_where (λ r. eqb (f r) a) (suc n))) ≡ total k (λ a. length (numbers_where (λ r. eqb (f r) a) n) + one (eqb (f n) a)) =
-    total_same k (λ a. length (numbers_where (λ r. eqb (f r) a) (suc n))) (λ a. length (numbers_where (λ r. eqb (f r) a) n) + one (eqb (f n) a)) (λ a l. row_more f n a) in
+    total-same k (λ a. length (numbers_where (λ r. eqb (f r) a) (suc n))) (λ a. length (numbers_where (λ r. eqb (f r) a) n) + one (eqb (f n) a)) (λ a l. row_more f n a) in
     omega (arith, more, total_both k (λ a. length (numbers_where (λ r. eqb (f r) a) n)) (λ a. one (eqb (f n) a)), rows_total f k n, one_most k (f n))
 
 -- all parts together have two ends for each ring
@@ -117,9 +113,9 @@ few_ends net inputs instants alone parts ends proper first joined =
     let have = joined.each a p q p_is q_is in
     let value : value_in ends_of (slice_get parts a) ≡ length q.givers.items + length q.takers.items = ap (value_in ends_of) q_is in
     omega (arith, value, row_length joined.givers (rings_from net.rings a n) q.givers.items have.givers_are, row_length joined.takers (rings_to net.rings a n) q.takers.items have.takers_are)) in
-    let sum : total (length parts) (λ a. value_in ends_of (slice_get parts a)) ≡ total (length parts) (λ a. from a + to a) = total_same (length parts) (λ a. value_in ends_of (slice_get parts a)) (λ a. from a + to a) each in
-    let most_from : total (length parts) from ≤ n = rows_total (λ r. (slice_index_or (map link_of net.rings) r no_link).from) (length parts) n in
-    let most_to : total (length parts) to ≤ n = rows_total (λ r. (slice_index_or (map link_of net.rings) r no_link).to) (length parts) n in
+    let sum : total (length parts) (λ a. value_in ends_of (slice_get parts a)) ≡ total (length parts) (λ a. from a + to a) = total-same (length parts) (λ a. value_in ends_of (slice_get parts a)) (λ a. from a + to a) each in
+    let most_from : total (length parts) from ≤ n = rows_total (giver net) (length parts) n in
+    let most_to : total (length parts) to ≤ n = rows_total (taker net) (length parts) n in
     let few : n ≤ limit_number limit.Rings = proper.few_rings in
     omega (arith, sum, total_both (length parts) from to, most_from, most_to, few, sum_all ends_of parts)
 

@@ -1,12 +1,12 @@
 -- What the parts of a finished runner may get in a block more.
-use Rattle.std.proofs.Common.{ℕ, suc, zero, ◌+◌, ◌-◌, ◌<◌, ◌≤◌, ◌≡◌, cond, List, [], ◌∷◌, ◌++◌, length, get_or, ap, refl, ◌∙◌, subst, arith, length-append}
+use Rattle.std.proofs.Common.{ℕ, suc, zero, ◌+◌, ◌<◌, ◌≤◌, ◌≡◌, cond, List, [], ◌∷◌, ◌++◌, length, get_or, ap, refl, ◌∙◌, subst, arith, length-append}
 use Rattle.std.specs.Prelude.{ℤ, Some, slice_get, sum_by}
 use Rattle.std.proofs.lemmas.Option.{slice_get_within, get_or_from_slice_get}
 use Rattle.std.proofs.lemmas.List.Sums.{sum_by-cons, get_or-le-sum_by}
-use Rattle.lucy_word.specs.Bits.{Bits, ones_to}
+use Rattle.lucy_word.specs.Bits.{ones_to}
 use Rattle.lucy_word.specs.Limits.{limit_number}
 use Rattle.lucy_word.specs.declared.limit.Limit.TheVariants as limit
-use Rattle.lucy_word.proofs.ShortLaws.{ones_to-later}
+use Rattle.lucy_word.proofs.IndexLaws.{ones_to-rises}
 use Rattle.lucy_host.specs.Operators.{Operator, kinds_of}
 use Rattle.lucy_stream.specs.Items.{list_at}
 use Rattle.lucy_stream.specs.Plans.{HasInput}
@@ -43,11 +43,12 @@ pub record IsAsked (old : Seen) (instants : ℕ) (added : List (List ℤ)) : Typ
   pub supplied : IsSupplied (longer_inputs old.net old.inputs added) old.net instants
 
 -- as many parts as actors
-total_one : (n : ℕ) → total n (λ (a : ℕ). 1) ≡ n
+pub total_one : (n : ℕ) → total n (λ (a : ℕ). 1) ≡ n
 total_one zero = refl
 total_one (suc n) = omega (arith, total_one n)
 
-sum_ones : (ps : List Part) → sum_seated (λ (a : ℕ). 1) ps ≡ length ps
+-- as many as there are parts
+pub sum_ones : (ps : List Part) → sum_seated (λ (a : ℕ). 1) ps ≡ length ps
 sum_ones [] = refl
 sum_ones (p ∷ ps) = omega (arith, sum_by-cons (number_of (λ (a : ℕ). 1)) p ps, sum_ones ps)
 
@@ -71,9 +72,6 @@ part_here seen before s k crew places ends ps p standing e f =
     let same : is.part ≡ p = same_part crew places a a is.part p is.at at refl in
     subst (λ (y : Part). IsPartAt (kinds_of seen.operators) seen.inputs seen.net seen.instants (core.state_of seen) (carried seen before y) y) same is.stands
 
-more_ones : (w : Bits) (n m : ℕ) → n ≤ m → ones_to w n ≤ ones_to w m
-more_ones w n m l = (let e : ones_to w (n + (m - n)) ≡ ones_to w m = ap (ones_to w) (omega arith) in omega (arith, ones_to-later w n (m - n)))
-
 has_items : (what : ActorKind) (quota items : ℕ) → ((n : ℕ) → what ≡ kind.Input n → quota ≤ items) → HasItems what quota items
 has_items (kind.Input n) quota items h = h n refl
 has_items what quota items h = tt
@@ -88,7 +86,7 @@ may_grow net schedule ops old before instants crew places ends added standing as
     let counted : (n : ℕ) → p.actor.kind ≡ kind.Input n → n < input_count net.actors = λ n is. counted_here net.actors p.number n p.actor here.there is in
     record {
       done = (finished_is net schedule ops old before crew places ends standing).1 asked.finished s k ps p e f;
-      more = omega (arith, here.state.quota, more_ones p.actor.firing old instants asked.later);
+      more = omega (arith, here.state.quota, ones_to-rises p.actor.firing old instants asked.later);
       early = asked.early;
       items = has_items p.actor.kind quota (length p.input.items + length (added_for p.actor.kind added)) (λ n is.
           (let held : length p.input.items ≡ length (list_at seen.inputs n) = ap (λ (xs : List ℤ). length xs) (subst (λ (what : ActorKind). ReadsInput what seen.inputs p.input.items) is here.reads) in

@@ -3,6 +3,7 @@ use Rattle.std.proofs.Common.{ℕ, ◌+◌, ◌<◌, ◌≤◌, ◌≡◌, List,
 use Rattle.std.specs.Prelude.{Some, slice_get}
 use Rattle.std.proofs.lemmas.Bool.{cases_eq}
 use Rattle.std.proofs.lemmas.Option.{get_or_from_slice_get, slice_get_within, slice_get-get_or}
+use Rattle.lucy_word.proofs.Lists.{get_one}
 use Rattle.lucy_net.specs.declared.net.RingSpec.{RingSpec}
 use Rattle.lucy_ring.specs.Views.{GiverView, TakerView}
 use Rattle.lucy_worker.specs.declared.part.Part.{Part}
@@ -51,9 +52,6 @@ joined_by crew places ends r ring at g t e x y same = record {
   taker = refl;
 }
 
-same_got : {X : Type 0} (xs : List X) (k : ℕ) (x y : X) → slice_get xs k ≡ Some x → slice_get xs k ≡ Some y → x ≡ y
-same_got xs k x y e f = (let one : Some x ≡ Some y = sym e ∙ f in cc)
-
 -- one meeting: of the ring's ends, and of nothing else
 pub record MeetsAt (crew next : List (List Part)) (places : List Place) (ends : List Ends) (r : ℕ) (ring : RingSpec) (g : GiverView) (t : TakerView) : Type 0 where
   pub h : GiverView
@@ -73,13 +71,13 @@ meets_at crew next places ends r ring j from to from_is to_is m =
     let tp : EndPlace = record { part = to.part; number = k } in
     let p_here : part_here crew from.seat from.part ≡ Some p = sym (ap (placed_in crew) from_is) ∙ j.giver_is in
     let t_here : part_here crew to.seat to.part ≡ Some j.taker = sym (ap (placed_in crew) to_is) ∙ j.taker_is in
-    let g_part : m.g.part ≡ p = same_got (parts_at crew from.seat) from.part m.g.part p m.g.part_is
+    let g_part : m.g.part ≡ p = get_one (parts_at crew from.seat) from.part m.g.part p m.g.part_is
     (part_get crew from.seat from.part p p_here) in
-    let g_is : m.g.end ≡ j.g = same_got p.givers.items n m.g.end j.g
+    let g_is : m.g.end ≡ j.g = get_one p.givers.items n m.g.end j.g
     (sym (ap (λ (x : Part). slice_get x.givers.items n) g_part) ∙ m.g.end_is) j.giver_end in
-    let t_part : m.t.part ≡ j.taker = same_got (parts_at crew to.seat) to.part m.t.part j.taker m.t.part_is
+    let t_part : m.t.part ≡ j.taker = get_one (parts_at crew to.seat) to.part m.t.part j.taker m.t.part_is
     (part_get crew to.seat to.part j.taker t_here) in
-    let t_is : m.t.end ≡ j.t = same_got j.taker.takers.items k m.t.end j.t
+    let t_is : m.t.end ≡ j.t = get_one j.taker.takers.items k m.t.end j.t
     (sym (ap (λ (x : Part). slice_get x.takers.items k) t_part) ∙ m.t.end_is) j.taker_end in
     let met : HaveMet j.g j.t m.h m.u = have_met m.g.end j.g m.t.end j.t m.h m.u g_is t_is m.met in
     let given : List (List Part) = with_giver_at crew from.seat gp m.g m.h in
@@ -88,7 +86,7 @@ meets_at crew next places ends r ring j from to from_is to_is m =
     let middle : IsTakerEnd mid places k r ring.to j.t = giver_taker crew mid places from p n r ring.from j.g m.h from_is p_here j.gives j.giver_end refl k r ring.to j.t (taker_of crew places ends r ring j) in
     let q : Part = middle.part in
     let q_here : part_here mid to.seat to.part ≡ Some q = sym (ap (placed_in mid) to_is) ∙ middle.is in
-    let q_is : m.then.part ≡ q = same_got (parts_at mid to.seat) to.part m.then.part q
+    let q_is : m.then.part ≡ q = get_one (parts_at mid to.seat) to.part m.then.part q
     (sym (ap (λ (c : List (List Part)). slice_get (parts_at c to.seat) to.part) mid_is) ∙ m.then.part_is)
     (part_get mid to.seat to.part q q_here) in
     let next_is : next ≡ set_part mid to.seat to.part (with_taker q k m.u) =
@@ -205,11 +203,11 @@ can_meet_at now places ends n ring p j =
       giver = record { part = j.giver; part_is = g_part; end = j.g; end_is = j.giver_end };
       taker = record { part = j.taker; part_is = t_part; end = j.t; end_is = j.taker_end };
       one = λ g t.
-          (let p_is : g.part ≡ j.giver = same_got (parts_at now from.seat) from.part g.part j.giver g.part_is g_part in
-          let g_is : g.end ≡ j.g = same_got j.giver.givers.items j.at.giver g.end j.g
+          (let p_is : g.part ≡ j.giver = get_one (parts_at now from.seat) from.part g.part j.giver g.part_is g_part in
+          let g_is : g.end ≡ j.g = get_one j.giver.givers.items j.at.giver g.end j.g
           (sym (ap (λ (x : Part). slice_get x.givers.items j.at.giver) p_is) ∙ g.end_is) j.giver_end in
-          let q_is : t.part ≡ j.taker = same_got (parts_at now to.seat) to.part t.part j.taker t.part_is t_part in
-          let t_is : t.end ≡ j.t = same_got j.taker.takers.items j.at.taker t.end j.t
+          let q_is : t.part ≡ j.taker = get_one (parts_at now to.seat) to.part t.part j.taker t.part_is t_part in
+          let t_is : t.end ≡ j.t = get_one j.taker.takers.items j.at.taker t.end j.t
           (sym (ap (λ (x : Part). slice_get x.takers.items j.at.taker) q_is) ∙ t.end_is) j.taker_end in
           ap (λ (v : GiverView). v.ring) g_is ∙ j.ring_is ∙ sym (ap (λ (v : TakerView). v.ring) t_is));
     }

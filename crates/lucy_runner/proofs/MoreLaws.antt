@@ -1,6 +1,6 @@
 -- A block more of a runner: room first, and then more to do.
 use Rattle.std.proofs.Common.{ℕ, ◌≡◌, List, ◌++◌, drop, ap, sym, refl, ◌∙◌, subst}
-use Rattle.std.specs.Prelude.{ℤ, OnErr, Result, Ok, Err}
+use Rattle.std.specs.Prelude.{ℤ}
 use Rattle.lucy_word.specs.Bits.{ones_to}
 use Rattle.lucy_host.specs.Operators.{Operator}
 use Rattle.lucy_stream.specs.States.{held, IsSame}
@@ -9,6 +9,7 @@ use Rattle.lucy_net.specs.declared.net.Net.{Net}
 use Rattle.lucy_net.specs.Schedules.{Timetable}
 use Rattle.lucy_core.specs.Seen.{Seen, state_of, CanRun, IsOutputOf, first_ring, after_picks}
 use Rattle.lucy_core.proofs.OpenLaws.{IsSound}
+use Rattle.lucy_core.proofs.SeenLaws.{held_same}
 use Rattle.lucy_worker.specs.declared.part.Part.{Part}
 use Rattle.lucy_runner.specs.declared.place.Place.{Place}
 use Rattle.lucy_runner.specs.declared.place.Ends.{Ends}
@@ -28,7 +29,6 @@ use Rattle.lucy_runner.proofs.FinishedLaws.{sound_of}
 use Rattle.lucy_runner.proofs.MayLaws.{IsAsked}
 use Rattle.lucy_runner.proofs.CrewLaws.{still_held}
 use Rattle.lucy_runner.proofs.RingLaws.{view_by, rings_stand, one_list}
-use Rattle.lucy_runner.proofs.StandLaws.{held_same}
 use Rattle.lucy_runner.proofs.SpareLaws.{Spare, same_seen, spared_numbers, spared_stands}
 
 -- what an output takes from now on goes on where it stood
@@ -119,7 +119,3 @@ more_view net schedule ops before old instants seats later places ends added sta
     (λ r. held_same (state_of now) (state_of was) r more.same) in
     ap (λ (s : Seen). view_by s old new (actors_by (crew_of later))) more.seen ∙ ap (λ (rs : List RingView). view_by (grown_seen was added instants) old rs (actors_by (crew_of later))) rings
     ∙ ap (view_by (grown_seen was added instants) old first) more.kept
-
-pub refused_as : {T E : Type 0} (r : Result T E) (P : Type 0) → P → OnErr r P
-refused_as (Ok x) P p = tt
-refused_as (Err e) P p = p

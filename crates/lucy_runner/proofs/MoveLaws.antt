@@ -4,11 +4,10 @@ use Rattle.std.specs.Prelude.{◌↔◌, Option, Some, None, slice_get}
 use Rattle.lucy_host.specs.Operators.{kinds_of}
 use Rattle.lucy_stream.specs.Systems.{System, given, taken}
 use Rattle.lucy_stream.specs.Runs.{IsPossible, IsRun, IsFinished, first_left}
-use Rattle.lucy_stream.specs.Plans.{Link}
 use Rattle.lucy_stream.proofs.AlikeLaws.{IsRun-same}
 use Rattle.lucy_stream.proofs.StateLaws.{held-count}
 use Rattle.lucy_stream.proofs.StuckLaws.{first_left-none, first_left-some}
-use Rattle.lucy_net.proofs.NetLaws.{link_is}
+use Rattle.lucy_net.proofs.NetLaws.{size_here}
 use Rattle.lucy_core.specs.Seen as core
 use Rattle.lucy_core.specs.Seen.{machine_on, done_of}
 use Rattle.lucy_core.proofs.PickLaws.{possible_in}
@@ -40,7 +39,7 @@ knows_slots : (x : Round) (a : ℕ) (w : Goes x a) (j r : ℕ) (g : GiverView) �
 knows_slots x a w j r g at end =
     let is : IsGiving x.seen.net x.crew x.places x.ends (ends_before x) r g = giving_is x.seen.net x.crew x.places x.ends (ends_before x) a w.part j r g x.standing.fixed.proper w.there w.at at end in
     let holds = (x.standing.rings r is.ring is.there).holds in
-    omega (arith, held-count (engine x) (low x) r (low_state x), ap (λ (v : GiverView). v.slots) is.is, holds.slots, ap (λ xs. length xs) holds.held, ap (λ (l : Link). l.size) (link_is x.seen.net x.seen.instants r is.ring is.there))
+    omega (arith, held-count (engine x) (low x) r (low_state x), ap (λ (v : GiverView). v.slots) is.is, holds.slots, ap (λ xs. length xs) holds.held, size_here x.seen.net x.seen.instants r is.ring is.there)
 
 knows : (x : Round) (a : ℕ) (w : Goes x a) → KnowsAll (engine x).sys w.part (low x).done
 knows x a w = record { items = knows_items x a w; slots = knows_slots x a w }

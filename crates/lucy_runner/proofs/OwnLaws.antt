@@ -1,5 +1,5 @@
 -- The ring at an end of an actor's part.
-use Rattle.std.proofs.Common.{ℕ, ◌<◌, ◌≡◌, List, [], map, length, ap, sym, ◌∙◌, subst, inl, inr, arith}
+use Rattle.std.proofs.Common.{ℕ, ◌<◌, ◌≡◌, List, [], map, length, ap, sym, ◌∙◌, subst}
 use Rattle.std.specs.Prelude.{All, Some, slice_get}
 use Rattle.std.proofs.lemmas.List.Elements.{All-get_or}
 use Rattle.std.proofs.lemmas.Option.{slice_get_within, get_or_from_slice_get}
@@ -9,8 +9,9 @@ use Rattle.lucy_net.specs.declared.net.RingSpec.{RingSpec}
 use Rattle.lucy_net.specs.declared.net.Net.{Net}
 use Rattle.lucy_net.specs.Plans.{task_of, plan, giver, taker}
 use Rattle.lucy_net.specs.Proper.{IsProper}
-use Rattle.lucy_net.proofs.NetLaws.{task_at, plugged, from_here, to_here, gives_there, takes_there, ring_cases}
+use Rattle.lucy_net.proofs.NetLaws.{task_at, plugged, from_here, to_here, gives_there, takes_there}
 use Rattle.lucy_ring.specs.Views.{GiverView, TakerView}
+use Rattle.lucy_net.proofs.InstantLaws.{held_ring}
 use Rattle.lucy_worker.specs.declared.part.Part.{Part}
 use Rattle.lucy_worker.specs.Parts.{given_on, taken_on}
 use Rattle.lucy_runner.specs.declared.place.Place.{Place}
@@ -23,9 +24,6 @@ use Rattle.lucy_runner.proofs.JoinLaws.{giver_there, taker_there, only_giver, on
 -- what holds of all rings of an actor holds of each
 pub of_ring : (P : ℕ → Type 0) (rings : List ℕ) (j r : ℕ) → All P rings → slice_get rings j ≡ Some r → P r
 of_ring P rings j r all at = subst P (get_or_from_slice_get rings j r 0 at) (All-get_or P rings j 0 (slice_get_within rings j r at) all)
-
-ring_there : (net : Net) (r : ℕ) → r < length net.rings → (ring : RingSpec) × (slice_get net.rings r ≡ Some ring)
-ring_there net r l = elim (ring_cases net r) [ inl here ↦ here | inr past ↦ absurd (omega arith) ]
 
 plugs : (net : Net) (a : ℕ) (actor : Actor) → IsProper net → slice_get net.actors a ≡ Some actor → IsPluggedAt (plan net 0) a (task_of 0 actor)
 plugs net a actor proper there = plugged net 0 proper a (task_of 0 actor) (task_at net 0 a actor there)
@@ -44,7 +42,7 @@ pub record IsTaking (net : Net) (crew : List (List Part)) (places : List Place) 
 pub giving_is : (net : Net) (crew : List (List Part)) (places : List Place) (ends : List Ends) (joined : AreJoined crew places ends net.rings) (a : ℕ) (p : Part) (j r : ℕ) (g : GiverView) →
     IsProper net → slice_get net.actors a ≡ Some p.actor → part_of crew places a ≡ Some p → slice_get p.actor.gives j ≡ Some r → slice_get p.givers.items j ≡ Some g → IsGiving net crew places ends joined r g
 giving_is net crew places ends joined a p j r g proper there at gives end =
-    let here = ring_there net r (of_ring (λ s. s < length net.rings) p.actor.gives j r (gives_there net a p.actor (proper.actors a p.actor there)) gives) in
+    let here = held_ring net r (of_ring (λ s. s < length net.rings) p.actor.gives j r (gives_there net a p.actor (proper.actors a p.actor there)) gives) in
     let z : IsJoined crew places ends r here.0 = joined r here.0 here.1 in
     let plugs_at = plugs net a p.actor proper there in
     let own : here.0.from ≡ a = sym (from_here net r here.0 here.1) ∙ of_ring (λ s. giver net s ≡ a) p.actor.gives j r plugs_at.gives gives in
@@ -54,7 +52,7 @@ giving_is net crew places ends joined a p j r g proper there at gives end =
 pub taking_is : (net : Net) (crew : List (List Part)) (places : List Place) (ends : List Ends) (joined : AreJoined crew places ends net.rings) (a : ℕ) (p : Part) (j r : ℕ) (t : TakerView) →
     IsProper net → slice_get net.actors a ≡ Some p.actor → part_of crew places a ≡ Some p → slice_get p.actor.takes j ≡ Some r → slice_get p.takers.items j ≡ Some t → IsTaking net crew places ends joined r t
 taking_is net crew places ends joined a p j r t proper there at takes end =
-    let here = ring_there net r (of_ring (λ s. s < length net.rings) p.actor.takes j r (takes_there net a p.actor (proper.actors a p.actor there)) takes) in
+    let here = held_ring net r (of_ring (λ s. s < length net.rings) p.actor.takes j r (takes_there net a p.actor (proper.actors a p.actor there)) takes) in
     let z : IsJoined crew places ends r here.0 = joined r here.0 here.1 in
     let plugs_at = plugs net a p.actor proper there in
     let own : here.0.to ≡ a = sym (to_here net r here.0 here.1) ∙ of_ring (λ s. taker net s ≡ a) p.actor.takes j r plugs_at.takes takes in

@@ -1,34 +1,22 @@
 -- Parts that are put to their places one after another.
-use Rattle.std.proofs.Common.{ℕ, suc, zero, ◌+◌, ◌<◌, ◌≤◌, ◌≡◌, List, [], ◌∷◌, ◌++◌, length, get_or, set, ap, sym, refl, ◌∙◌, subst, inl, inr, arith, length-append}
+use Rattle.std.proofs.Common.{ℕ, ◌+◌, ◌<◌, ◌≤◌, ◌≡◌, List, [], ◌∷◌, ◌++◌, length, get_or, set, ap, sym, refl, ◌∙◌, subst, inl, inr, arith, length-append}
 use Rattle.std.specs.Prelude.{Option, Some, None, All, slice_get, sum_by}
 use Rattle.std.proofs.lemmas.Bool.{cases_eq, cases_lt}
 use Rattle.std.proofs.lemmas.Option.{slice_get_within, get_or_from_slice_get}
 use Rattle.std.proofs.lemmas.List.Sums.{sum_by-cons, sum_by_push, sum_by-set, get_or-le-sum_by}
 use Rattle.std.proofs.lemmas.List.Elements.{All-head, All-tail, All-get_or}
+use Rattle.lucy_word.proofs.Lists.{still_there, get_set_same}
+use Rattle.lucy_host.proofs.Elements.{get_last}
 use Rattle.lucy_stream.specs.Totals.{total}
-use Rattle.lucy_core.proofs.ListLaws.{get_set_same, get_set_other, get_push, some_same}
+use Rattle.lucy_stream.proofs.TotalLaws.{total_more}
+use Rattle.lucy_core.proofs.ListLaws.{get_set_other, get_push, some_same}
 use Rattle.lucy_worker.specs.declared.part.Part.{Part}
 use Rattle.lucy_worker.proofs.WithinLaws.{get_set}
 use Rattle.lucy_runner.specs.declared.place.Place.{Place}
 use Rattle.lucy_runner.specs.Crews.{part_in, placed_in, part_of, number_of, sum_seated, AreShared}
 use Rattle.lucy_runner.specs.Standing.{AreCovered}
 use Rattle.lucy_runner.specs.Making.{ArePlaced, AreNumbered}
-
--- elements of a list that goes on
-pub get_left : {X : Type 0} (xs ys : List X) (i : ℕ) (x : X) → slice_get xs i ≡ Some x → slice_get (xs ++ ys) i ≡ Some x
-get_left [] ys i x e = absurd (cc)
-get_left (z ∷ zs) ys zero x e = e
-get_left (z ∷ zs) ys (suc i) x e = get_left zs ys i x e
-
-pub get_last : {X : Type 0} (xs : List X) (x : X) → slice_get (xs ++ x ∷ []) (length xs) ≡ Some x
-get_last [] x = refl
-get_last (z ∷ zs) x = get_last zs x
-
--- what is below a length is there
-pub get_there : {X : Type 0} (xs : List X) (i : ℕ) → i < length xs → (x : X) × (slice_get xs i ≡ Some x)
-get_there [] i l = absurd (omega arith)
-get_there (x ∷ xs) zero l = (x, refl)
-get_there (x ∷ xs) (suc i) l = get_there xs i (omega arith)
+use Rattle.lucy_runner.proofs.MayLaws.{sum_ones, total_one}
 
 -- where the part of a number is
 pub record IsAt (crew : List (List Part)) (places : List Place) (a : ℕ) (p : Part) : Type 0 where
@@ -52,9 +40,6 @@ is_at crew places a p e = in_crew crew places a p (slice_get places a) refl e
 pub at_is : (crew : List (List Part)) (places : List Place) (a s k : ℕ) (row : List Part) (p : Part) → slice_get places a ≡ Some (record { seat = s; part = k }) → slice_get crew s ≡ Some row → slice_get row k ≡ Some p → part_of crew places a ≡ Some p
 at_is crew places a s k row p e f g = ap (placed_in crew) e ∙ ap (λ o. part_in o k) f ∙ g
 
-total_more : (n : ℕ) (g : ℕ → ℕ) → total (n + 1) g ≡ total n g + g n
-total_more n g = ap (λ k. total k g) (let e : n + 1 ≡ suc n = omega arith in e)
-
 -- a row with a part more
 more_each : (parts : List Part) (n : ℕ) (crew : List (List Part)) (places : List Place) (s : ℕ) (row : List Part) (p : Part) → ArePlaced parts n crew places → slice_get parts n ≡ Some p → slice_get crew s ≡ Some row →
     (a : ℕ) (q : Part) → a < n + 1 → slice_get parts a ≡ Some q → part_of (set crew s (row ++ p ∷ [])) (places ++ record { seat = s; part = length row } ∷ []) a ≡ Some q
@@ -64,13 +49,13 @@ more_each parts n crew places s row p is here there a q l e =
     elim (cases_lt a n) [
       | inl lt ↦
           let old : IsAt crew places a q = is_at crew places a q (is.each a q lt e) in
-          let place : slice_get (places ++ last ∷ []) a ≡ Some old.place = get_left places (last ∷ []) a old.place old.place_is in
+          let place : slice_get (places ++ last ∷ []) a ≡ Some old.place = still_there places (last ∷ []) a old.place old.place_is in
           elim (cases_eq s old.place.seat) [
             | inl same ↦
                 let one : row ≡ old.row = some_same (slice_get crew s) row old.row there (ap (slice_get crew) same ∙ old.row_is) in
                 let now : slice_get after old.place.seat ≡ Some (row ++ p ∷ []) = ap (slice_get after) (sym same) ∙ get_set crew s row (row ++ p ∷ []) there in
                 let part : slice_get row old.place.part ≡ Some q = ap (λ xs. slice_get xs old.place.part) one ∙ old.part_is in
-                at_is after (places ++ last ∷ []) a old.place.seat old.place.part (row ++ p ∷ []) q place now (get_left row (p ∷ []) old.place.part q part)
+                at_is after (places ++ last ∷ []) a old.place.seat old.place.part (row ++ p ∷ []) q place now (still_there row (p ∷ []) old.place.part q part)
             | inr other ↦
                 at_is after (places ++ last ∷ []) a old.place.seat old.place.part old.row q place (get_set_other crew s old.place.seat (row ++ p ∷ []) other ∙ old.row_is) old.part_is
           ]
@@ -89,13 +74,13 @@ more_covered parts n crew places s row p is number there t k now q f g =
       | inl same ↦
           let it : now ≡ row ++ p ∷ [] = get_set_same crew s (row ++ p ∷ []) now (ap (slice_get (set crew s (row ++ p ∷ []))) same ∙ f) in
           elim (get_push row p q k (ap (λ xs. slice_get xs k) (sym it) ∙ g)) [
-            | inl old ↦ get_left places (last ∷ []) q.number (record { seat = t; part = k }) (is.covered t k row q (ap (slice_get crew) (sym same) ∙ there) old)
+            | inl old ↦ still_there places (last ∷ []) q.number (record { seat = t; part = k }) (is.covered t k row q (ap (slice_get crew) (sym same) ∙ there) old)
             | inr new ↦
                 let at : q.number ≡ length places = ap (λ (x : Part). x.number) new.1 ∙ number ∙ sym is.placed in
                 let place : last ≡ record { seat = t; part = k } = ap (λ x. record last { seat = x }) same ∙ ap (λ x. record { seat = t; part = x }) (sym new.0) in
                 ap (slice_get (places ++ last ∷ [])) at ∙ get_last places last ∙ ap Some place
           ]
-      | inr other ↦ get_left places (last ∷ []) q.number (record { seat = t; part = k }) (is.covered t k now q (sym (get_set_other crew s t (row ++ p ∷ []) other) ∙ f) g)
+      | inr other ↦ still_there places (last ∷ []) q.number (record { seat = t; part = k }) (is.covered t k now q (sym (get_set_other crew s t (row ++ p ∷ []) other) ∙ f) g)
     ]
 
 more_shared : (n : ℕ) (crew : List (List Part)) (s : ℕ) (row : List Part) (p : Part) → AreShared crew n → p.number ≡ n → slice_get crew s ≡ Some row → AreShared (set crew s (row ++ p ∷ [])) (n + 1)
@@ -140,14 +125,6 @@ place_none parts crew none = record {
 }
 
 -- a seat has no more parts than there are
-rows_one : (row : List Part) → sum_seated (λ (a : ℕ). 1) row ≡ length row
-rows_one [] = refl
-rows_one (p ∷ row) = omega (arith, sum_by-cons (number_of (λ (a : ℕ). 1)) p row, rows_one row)
-
-total_one : (n : ℕ) → total n (λ (a : ℕ). 1) ≡ n
-total_one zero = refl
-total_one (suc n) = omega (arith, total_one n)
-
 pub row_short : (parts : List Part) (n : ℕ) (crew : List (List Part)) (places : List Place) (s : ℕ) (row : List Part) → ArePlaced parts n crew places → slice_get crew s ≡ Some row → length row ≤ n
 row_short parts n crew places s row is there =
     let one : ℕ → ℕ = λ (a : ℕ). 1 in
@@ -155,4 +132,4 @@ row_short parts n crew places s row is there =
     let most : sum_seated one (get_or crew s row) ≤ sum_by (sum_seated one) crew = get_or-le-sum_by (sum_seated one) crew s row l in
     let same : sum_seated one (get_or crew s row) ≡ sum_seated one row = ap (sum_seated one) (get_or_from_slice_get crew s row row there) in
     let all : sum_by (sum_seated one) crew ≡ total n one = is.shared one in
-    omega (arith, most, same, all, rows_one row, total_one n)
+    omega (arith, most, same, all, sum_ones row, total_one n)

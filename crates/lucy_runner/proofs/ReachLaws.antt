@@ -12,8 +12,7 @@ use Rattle.lucy_stream.proofs.AlikeLaws.{IsRun-same, after-same}
 use Rattle.lucy_stream.proofs.EventLaws.{events-done}
 use Rattle.lucy_stream.proofs.ReachLaws.{converse}
 use Rattle.lucy_stream.proofs.TotalLaws.{events_counted}
-use Rattle.lucy_net.specs.Plans.{net_system}
-use Rattle.lucy_net.proofs.NetLaws.{only_first}
+use Rattle.lucy_net.proofs.NetLaws.{only_planned}
 use Rattle.lucy_core.specs.Seen as core
 use Rattle.lucy_core.specs.Seen.{machine_on, done_of}
 use Rattle.lucy_core.proofs.PickLaws.{more_after, more_length}
@@ -115,10 +114,9 @@ at_number crew places s k ps p covered e f = part_is crew places p.number (recor
 
 -- as many events as moves
 pub picks_counted : (x : Round) → length (picks_of x) ≡ x.moves
-unfolding net_system
 picks_counted x =
     let n : ℕ = length x.seen.net.actors in
-    let only : OnlyFirst (engine x).sys n = only_first x.seen.net x.seen.instants in
+    let only : OnlyFirst (engine x).sys n = only_planned x.seen.net x.seen.instants in
     let all : total n (high x).done ≡ total n (low x).done + length (picks_of x) = events_counted (engine x).sys n (low x).done (high x).done (picks_of x) only (leads x) in
     let first : sum_by done_by x.crew ≡ total n (low x).done = all_counted x.crew n (low x).done x.standing.shared (λ s k ps p e f.
     low_done x p.number ∙ ap done_in (at_number x.crew x.places s k ps p x.standing.covered e f)) in

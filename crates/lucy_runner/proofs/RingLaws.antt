@@ -3,8 +3,9 @@ use Rattle.std.proofs.Common.{ℕ, zero, suc, ◌+◌, ◌≡◌, ◌++◌, List
 use Rattle.std.specs.Prelude.{ℤ, Option, Some, slice_get}
 use Rattle.std.specs.Option.{option_map}
 use Rattle.std.proofs.lemmas.List.{length-map, same_lists, append-nil}
-use Rattle.std.proofs.lemmas.Option.{slice_get_within, slice_get-map, get_or_from_slice_get}
+use Rattle.std.proofs.lemmas.Option.{slice_get_within, slice_get-map, get_or_from_slice_get, same_Some}
 use Rattle.lucy_host.specs.Operators.{Operator}
+use Rattle.lucy_host.proofs.Elements.{get_there}
 use Rattle.lucy_stream.specs.States.{held}
 use Rattle.lucy_net.specs.declared.net.RingSpec.{RingSpec}
 use Rattle.lucy_net.specs.declared.net.Net.{Net}
@@ -20,12 +21,8 @@ use Rattle.lucy_runner.specs.Crews.{seen_by, IsJoined}
 use Rattle.lucy_runner.specs.Rings.{giver_in, taker_in, ring_between, ring_by, rings_by}
 use Rattle.lucy_runner.specs.Standing.{HasEnds, IsStanding}
 use Rattle.lucy_runner.specs.Making.{AreMade}
-use Rattle.lucy_runner.proofs.PlacingLaws.{get_there}
 use Rattle.lucy_runner.proofs.SetOutLaws.{fixed_seen, first_is}
 use Rattle.lucy_runner.proofs.FirstLaws.{first_held, stands_seen}
-
-same_one : {X : Type 0} (x y : X) → Some x ≡ Some y → x ≡ y
-same_one x y e = cc
 
 -- a ring of these items and slots
 abbrev ring_of : List ℤ → ℕ → RingView
@@ -46,7 +43,7 @@ ring_is : (seen : Seen) (crew : List (List Part)) (places : List Place) (ends : 
     HasEnds seen crew places ends r spec → ring_by crew places spec at ≡ ring_of (held (state_of seen) r) (spec.size + 1)
 ring_is seen crew places ends r spec at e has =
     let j : IsJoined crew places ends r spec = has.joined in
-    let same : j.at ≡ at = same_one j.at at (sym j.ends_at ∙ e) in
+    let same : j.at ≡ at = same_Some j.at at (sym j.ends_at ∙ e) in
     ap (ring_by crew places spec) (sym same)
     ∙ between_is _ _ j.g j.t (held (state_of seen) r) (spec.size + 1) (ap (λ p. giver_in p j.at.giver) j.giver_is ∙ j.giver_end) (ap (λ p. taker_in p j.at.taker) j.taker_is ∙ j.taker_end)
     has.holds.given has.holds.taken has.holds.held has.holds.capacity
@@ -59,7 +56,7 @@ rings_count crew places (spec ∷ specs) (at ∷ ends) e = ap suc (rings_count c
 
 rings_get : (crew : List (List Part)) (places : List Place) (specs : List RingSpec) (ends : List Ends) (r : ℕ) (spec : RingSpec) (at : Ends) → slice_get specs r ≡ Some spec → slice_get ends r ≡ Some at →
     slice_get (rings_by crew places specs ends) r ≡ Some (ring_by crew places spec at)
-rings_get crew places (s ∷ specs) (a ∷ ends) zero spec at e f = ap (λ x. Some (ring_by crew places x a)) (same_one s spec e) ∙ ap (λ x. Some (ring_by crew places spec x)) (same_one a at f)
+rings_get crew places (s ∷ specs) (a ∷ ends) zero spec at e f = ap (λ x. Some (ring_by crew places x a)) (same_Some s spec e) ∙ ap (λ x. Some (ring_by crew places spec x)) (same_Some a at f)
 rings_get crew places (s ∷ specs) (a ∷ ends) (suc r) spec at e f = rings_get crew places specs ends r spec at e f
 rings_get crew places [] ends r spec at e f = absurd (cc)
 rings_get crew places (s ∷ specs) [] r spec at e f = absurd (cc)
@@ -71,7 +68,7 @@ rings_stand seen before crew places ends standing = record {
   count = rings_count crew places seen.net.rings ends standing.ended;
   each = λ r spec ring e f.
       let (at, at_is) = get_there ends r (omega (arith, standing.ended, slice_get_within seen.net.rings r spec e)) in
-      same_one ring (ring_by crew places spec at) (sym f ∙ rings_get crew places seen.net.rings ends r spec at e at_is) ∙ ring_is seen crew places ends r spec at at_is (standing.rings r spec e);
+      same_Some ring (ring_by crew places spec at) (sym f ∙ rings_get crew places seen.net.rings ends r spec at e at_is) ∙ ring_is seen crew places ends r spec at at_is (standing.rings r spec e);
 }
 
 -- the rings of two states of one net in which the same is held are the same

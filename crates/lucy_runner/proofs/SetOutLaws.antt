@@ -5,6 +5,7 @@ use Rattle.std.specs.List.{range_with_len}
 use Rattle.std.proofs.lemmas.Option.{slice_get_within}
 use Rattle.lucy_word.specs.Bits.{ones_to}
 use Rattle.lucy_host.specs.Operators.{Operator}
+use Rattle.lucy_host.proofs.Elements.{get_there}
 use Rattle.lucy_stream.specs.Items.{list_at}
 use Rattle.lucy_stream.specs.Plans.{HasInput}
 use Rattle.lucy_net.specs.declared.kind.ActorKind.{ActorKind}
@@ -23,7 +24,6 @@ use Rattle.lucy_runner.specs.declared.place.Ends.{Ends}
 use Rattle.lucy_runner.specs.Views.{input_count, input_for, inputs_for}
 use Rattle.lucy_runner.specs.Crews.{placed_in, part_of, done_in, done_at_place, done_list, items_of, inputs_of, seen_by}
 use Rattle.lucy_runner.specs.Making.{IsBegun, HasEndsOf, AreMade}
-use Rattle.lucy_runner.proofs.PlacingLaws.{get_there}
 use Rattle.lucy_runner.proofs.JoiningLaws.{map_alike}
 use Rattle.lucy_runner.proofs.MadeLaws.{is_out, out_begun}
 use Rattle.lucy_runner.proofs.BegunLaws.{none_done}
@@ -50,7 +50,7 @@ sets_out net inputs instants crew places ends made proper a actor here =
     }
 
 -- what is read is the list of a number
-list_read : (what : ActorKind) (inputs : List (List ℤ)) (items : List ℤ) → ReadsInput what inputs items → HasListOf (list_at inputs) what items
+pub list_read : (what : ActorKind) (inputs : List (List ℤ)) (items : List ℤ) → ReadsInput what inputs items → HasListOf (list_at inputs) what items
 list_read (Input n) inputs items is = is
 list_read (Lit value) inputs items is = tt
 list_read (Op op) inputs items is = tt

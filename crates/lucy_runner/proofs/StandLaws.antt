@@ -1,9 +1,9 @@
 -- After a round the parts and ends stand in the state of the new counts.
-use Rattle.std.proofs.Common.{ℕ, ◌≤◌, ◌≡◌, List, [], ◌++◌, length, drop, ap, sym, refl, ◌∙◌, subst, arith}
+use Rattle.std.proofs.Common.{ℕ, ◌≤◌, ◌≡◌, List, [], ◌++◌, ap, sym, refl, ◌∙◌, subst, arith}
 use Rattle.std.specs.Prelude.{ℤ, Some, slice_get}
 use Rattle.std.proofs.lemmas.List.{append-nil}
 use Rattle.lucy_stream.specs.Runs.{IsWithin}
-use Rattle.lucy_stream.specs.States.{State, held, events, IsSame}
+use Rattle.lucy_stream.specs.States.{events, IsSame}
 use Rattle.lucy_stream.proofs.CountedLaws.{within_later}
 use Rattle.lucy_net.specs.declared.kind.ActorKind.{ActorKind}
 use Rattle.lucy_net.specs.declared.kind.ActorKind.TheVariants as kind
@@ -31,9 +31,6 @@ sound x = record { fixed = x.standing.fixed; machine = engine_is x; within = x.s
 
 pub next_is : (x : Round) → next x ≡ core.after_picks x.seen (picks_of x)
 next_is x = ap (λ ds. record x.seen { done = ds }) (list_after x)
-
-pub held_same : (s t : State) (r : ℕ) → IsSame s t → held s r ≡ held t r
-held_same s t r same = ap (λ xs. drop (length xs) (s.gave r)) (same.took r) ∙ ap (drop (length (t.took r))) (same.gave r)
 
 -- the state of its counts is the one after the round
 pub same_state : (x : Round) → IsSame (core.state_of (next x)) (high x)

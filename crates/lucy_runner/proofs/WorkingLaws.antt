@@ -5,6 +5,7 @@ use Rattle.std.proofs.lemmas.Option.{slice_get_within, slice_get-get_or, get_or_
 use Rattle.std.proofs.lemmas.List.{take_all}
 use Rattle.std.proofs.lemmas.List.Sums.{sum_by-cons, sum_by_more, get_or-le-sum_by}
 use Rattle.std.proofs.lemmas.List.Elements.{All-get_or}
+use Rattle.lucy_host.proofs.Elements.{get_there}
 use Rattle.lucy_stream.specs.Totals.{total}
 use Rattle.lucy_core.proofs.ListLaws.{some_same}
 use Rattle.lucy_worker.specs.declared.part.Part.{Part}
@@ -12,7 +13,7 @@ use Rattle.lucy_worker.specs.News.{IsNew, ends_of, ends_by}
 use Rattle.lucy_runner.specs.declared.place.Place.{Place}
 use Rattle.lucy_runner.specs.Crews.{number_of, sum_seated}
 use Rattle.lucy_runner.specs.Making.{ArePlaced, CanWork}
-use Rattle.lucy_runner.proofs.PlacingLaws.{get_there, at_is}
+use Rattle.lucy_runner.proofs.PlacingLaws.{at_is}
 
 -- each part of a seat is the one of its number
 pub in_order : (parts : List Part) (crew : List (List Part)) (places : List Place) (s k : ℕ) (row : List Part) (p : Part) → ArePlaced parts (length parts) crew places → slice_get crew s ≡ Some row → slice_get row k ≡ Some p → slice_get parts p.number ≡ Some p

@@ -4,11 +4,10 @@ use Rattle.lucy_word.specs.Bits.{ones_to}
 use Rattle.lucy_word.specs.Limits.{limit_number}
 use Rattle.lucy_word.specs.declared.limit.Limit.TheVariants as limit
 use Rattle.lucy_stream.specs.Forms.{operands}
-use Rattle.lucy_stream.specs.Plans.{no_link}
 use Rattle.lucy_net.specs.declared.net.Actor.{Actor}
 use Rattle.lucy_net.specs.declared.net.RingSpec.{RingSpec}
 use Rattle.lucy_net.specs.declared.net.Net.{Net}
-use Rattle.lucy_net.specs.Plans.{form_of, link_of}
+use Rattle.lucy_net.specs.Plans.{form_of}
 use Rattle.lucy_net.specs.Proper.{numbers_where}
 use Rattle.lucy_net.specs.States.{IsActorState, ReadsInput}
 use Rattle.lucy_ring.specs.Views.{GiverView, TakerView}
@@ -44,11 +43,11 @@ pub record AreFirstParts (inputs : List (List ℤ)) (instants : ℕ) (actors : L
 
 -- of the first rings, so many of them, those from an actor
 abbrev pub rings_from : List RingSpec → ℕ → ℕ → List ℕ
-rings_from rings a n = numbers_where (λ r. nat_eq (slice_index_or (map link_of rings) r no_link).from a) n
+rings_from rings a n = numbers_where (λ r. nat_eq (slice_index_or (map (λ ring. ring.from) rings) r 0) a) n
 
 -- of the first rings those to an actor
 abbrev pub rings_to : List RingSpec → ℕ → ℕ → List ℕ
-rings_to rings a n = numbers_where (λ r. nat_eq (slice_index_or (map link_of rings) r no_link).to a) n
+rings_to rings a n = numbers_where (λ r. nat_eq (slice_index_or (map (λ ring. ring.to) rings) r 0) a) n
 
 -- the ends of a ring that was just made: it has its size and one slot more, and no item
 pub record AreNewEnds (ring : RingSpec) (g : GiverView) (t : TakerView) : Type 0 where

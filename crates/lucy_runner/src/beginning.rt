@@ -6,15 +6,13 @@ ghost use Rattle.lucy_net.specs.States.{IsUsable, ReadsInput};
 ghost use Rattle.lucy_worker.specs.News.{HasRoom};
 ghost use Rattle.lucy_runner.specs.Making.{IsFirstPart, AreFirstParts};
 
-use crate::lists::push;
 use lucy_host::Inputs;
 use lucy_net::{Actor, ActorKind, first_state};
-use lucy_word::OutOfMemory;
 use lucy_worker::Part;
-use std::alloc::Global;
+use std::alloc::{AllocError, Global};
 
 // The list of an input, an empty one where there is none.
-fn input_of(alloc: Global, inputs: &Inputs, kind: &ActorKind) -> Result<Vec<i64>, OutOfMemory>
+fn input_of(alloc: Global, inputs: &Inputs, kind: &ActorKind) -> Result<Vec<i64>, AllocError>
     ensures { IfOk result (λ list. ReadsInput kind.now inputs.now list.items) }
 {
     match kind {
@@ -24,7 +22,7 @@ fn input_of(alloc: Global, inputs: &Inputs, kind: &ActorKind) -> Result<Vec<i64>
 }
 
 // An empty list, with room for an output that fires so often.
-fn output_of(alloc: Global, kind: &ActorKind, quota: u64) -> Result<Vec<i64>, OutOfMemory>
+fn output_of(alloc: Global, kind: &ActorKind, quota: u64) -> Result<Vec<i64>, AllocError>
     ensures empty { IfOk result (λ list. list.items ≡ []) }
     ensures room { IfOk result (λ list. HasRoom kind.now quota 0 (vec_capacity list)) }
 {
@@ -41,7 +39,7 @@ fn first_part(
     actor: &Actor,
     inputs: &Inputs,
     instants: u64,
-) -> Result<Part, OutOfMemory>
+) -> Result<Part, AllocError>
     requires usable { IsUsable actor.now }
     ensures { IfOk result (λ part. IsFirstPart inputs.now instants number actor.now part) }
 {
@@ -66,7 +64,7 @@ pub(crate) fn first_parts(
     actors: &[Actor],
     inputs: &Inputs,
     instants: u64,
-) -> Result<Vec<Part>, OutOfMemory>
+) -> Result<Vec<Part>, AllocError>
     requires few { length actors.now ≤ limit_number limit.Actors }
     requires usable { All IsUsable actors.now }
     ensures { IfOk result (λ parts. AreFirstParts inputs.now instants actors.now parts.items) }
@@ -74,7 +72,7 @@ pub(crate) fn first_parts(
     let mut parts = Vec::new(alloc);
     for (number, actor) in actors.iter().enumerate() {
         let part = first_part(alloc, number as u32, actor, inputs, instants)?;
-        push(&mut parts, part)?;
+        parts.push(part)?;
     }
     Ok(parts)
 }

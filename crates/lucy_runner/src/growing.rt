@@ -7,9 +7,8 @@ ghost use Rattle.lucy_runner.specs.Growths.{added_for, HaveGrown, room_for, MayG
 use crate::seat::Seat;
 use lucy_host::Inputs;
 use lucy_net::ActorKind;
-use lucy_word::OutOfMemory;
 use lucy_worker::Part;
-use std::alloc::Global;
+use std::alloc::{AllocError, Global};
 
 // The items that follow those of an input's actor, none for any other.
 fn added_to<'a>(kind: &ActorKind, inputs: &'a Inputs) -> &'a [i64]
@@ -34,7 +33,7 @@ fn room_of(part: &Part, instants: u64) -> u64
 
 impl Seat {
     // Makes room for what each part gets.
-    fn reserve(&mut self, alloc: Global, inputs: &Inputs, instants: u64) -> Result<(), OutOfMemory>
+    fn reserve(&mut self, alloc: Global, inputs: &Inputs, instants: u64) -> Result<(), AllocError>
         requires few { length self.old.worker.parts < 2 ^ 32 }
         requires may { All (MayGrow inputs.now instants) self.old.worker.parts }
         ensures spared { AreSpared self.old.worker.parts self.new.worker.parts }
@@ -69,7 +68,7 @@ fn reserve_all(
     seats: &mut [Seat],
     inputs: &Inputs,
     instants: u64,
-) -> Result<(), OutOfMemory>
+) -> Result<(), AllocError>
     requires few { AreFew (crew_of seats.old) }
     requires may { OfEach (MayGrow inputs.now instants) (crew_of seats.old) }
     ensures spared { HaveSpared (crew_of seats.old) (crew_of seats.new) }
@@ -100,7 +99,7 @@ pub(crate) fn grow_all(
     seats: &mut [Seat],
     inputs: &Inputs,
     instants: u64,
-) -> Result<(), OutOfMemory>
+) -> Result<(), AllocError>
     requires few { AreFew (crew_of seats.old) }
     requires may { OfEach (MayGrow inputs.now instants) (crew_of seats.old) }
     ensures ok { OnOk result (HaveGrown (crew_of seats.old) (crew_of seats.new) inputs.now instants) }

@@ -8,7 +8,6 @@
 mod beginning;
 mod growing;
 mod joining;
-mod lists;
 mod making;
 mod meeting;
 mod outputs;

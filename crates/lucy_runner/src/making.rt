@@ -17,8 +17,7 @@ use crate::route::route_of;
 use crate::seat::Seat;
 use crate::sitting::seat_parts;
 use lucy_core::CoreParts;
-use lucy_word::OutOfMemory;
-use std::alloc::Global;
+use std::alloc::{AllocError, Global};
 
 /// The actors of a net in the seats of their homes, where they, their rings' ends and the outputs are, and a route over all.
 #[derive(Drop)]
@@ -37,7 +36,7 @@ pub(crate) fn seat_all(
     core: &CoreParts,
     workers: u32,
     homes: &[u32],
-) -> Result<Crew, OutOfMemory>
+) -> Result<Crew, AllocError>
     requires proper { IsProper core.now.net }
     requires supplied { IsSupplied core.now.inputs core.now.net core.now.instants }
     requires early { core.now.instants ≤ limit_number limit.Instants }

@@ -7,14 +7,12 @@ ghost use Rattle.lucy_runner.specs.Crews.{seated, crew_of};
 ghost use Rattle.lucy_runner.specs.Turns.{AreServed, HaveAllRun};
 ghost use Rattle.lucy_runner.specs.Seats.{full_round, most_passed, most_along};
 
-use crate::lists::push;
 use crate::place::Place;
 use crate::seat::Seat;
 use lucy_host::Host;
 use lucy_net::Schedule;
-use lucy_word::OutOfMemory;
 use lucy_worker::Heading;
-use std::alloc::Global;
+use std::alloc::{AllocError, Global};
 
 // Puts the place of an actor behind those that are there, if it is missing.
 fn visit(
@@ -22,10 +20,10 @@ fn visit(
     missing: &mut [bool],
     places: &[Place],
     actor: usize,
-) -> Result<(), OutOfMemory> {
+) -> Result<(), AllocError> {
     if actor < missing.len() && actor < places.len() && missing[actor] {
         missing[actor] = false;
-        push(route, places[actor])?;
+        route.push(places[actor])?;
     }
     Ok(())
 }
@@ -36,7 +34,7 @@ fn visit_each(
     missing: &mut [bool],
     places: &[Place],
     actors: &[u32],
-) -> Result<(), OutOfMemory> {
+) -> Result<(), AllocError> {
     let from = route.len();
     for actor in actors.iter().rev() {
         visit(route, missing, places, *actor as usize)?;
@@ -54,7 +52,7 @@ pub(crate) fn route_of(
     alloc: Global,
     schedule: &Schedule,
     places: &[Place],
-) -> Result<Vec<Place>, OutOfMemory> {
+) -> Result<Vec<Place>, AllocError> {
     let mut missing = vec![in alloc; true; places.len()]?;
     let mut route = Vec::with_capacity(alloc, places.len())?;
     let (prefix, period) = schedule.lengths();

@@ -9,9 +9,8 @@ use crate::seat::{Seat, all_done, few_left, operations_done, pass_in_place, turn
 use lucy_core::Core;
 use lucy_host::{Host, Inputs, Ops};
 use lucy_net::{Net, Schedule};
-use lucy_word::OutOfMemory;
 use lucy_worker::Gate;
-use std::alloc::Global;
+use std::alloc::{AllocError, Global};
 use std::marker::Model;
 use std::thread::Threads;
 
@@ -85,12 +84,7 @@ impl Runner {
 
     /// A runner of a core without an event so far, by 1 to 64 workers: the actor of a number is in the worker that is its home. The list
     /// of an input that doesn't fire may be missing; it is an empty one. Each ring gets its size and one slot more. All memory that rounds use is made here.
-    pub fn new(
-        alloc: Global,
-        core: Core,
-        workers: u32,
-        homes: &[u32],
-    ) -> Result<Runner, OutOfMemory>
+    pub fn new(alloc: Global, core: Core, workers: u32, homes: &[u32]) -> Result<Runner, AllocError>
         requires unbegun { IsUnbegun core }
         requires workers { (1 ≤ workers) × (workers ≤ most_workers) }
         requires homes { length homes.now ≡ length core.net.actors }
@@ -252,7 +246,7 @@ impl Runner {
     /// Moves the horizon of a finished runner on, to at most 1,048,576 instants, and appends to each input the items that follow its
     /// own, none where their list is missing: it then needs an item for each firing up to the new horizon. Rings and actors stay as they are, and the outputs' items
     /// count as carried away. All memory that rounds use is made here, before anything else is done, so a refusal changes nothing.
-    pub fn more(&mut self, alloc: Global, inputs: &Inputs, instants: u64) -> Result<(), OutOfMemory>
+    pub fn more(&mut self, alloc: Global, inputs: &Inputs, instants: u64) -> Result<(), AllocError>
         requires finished { IsOver self.old.seen }
         requires later { self.old.seen.instants ≤ instants }
         requires early { instants ≤ limit_number limit.Instants }

@@ -7,12 +7,10 @@ ghost use Rattle.lucy_runner.specs.Homes.{is_home, at_home, crew_by, actors_by};
 ghost use Rattle.lucy_runner.specs.Crews.{crew_of};
 ghost use Rattle.lucy_runner.specs.Making.{benched, homes_in, ArePlaced, AreNumbered, CanWork, HaveSeats};
 
-use crate::lists::push;
 use crate::place::Place;
 use crate::seat::Seat;
-use lucy_word::OutOfMemory;
 use lucy_worker::{Part, Worker};
-use std::alloc::Global;
+use std::alloc::{AllocError, Global};
 
 // What a worker is made of: its home, and its parts.
 #[derive(Drop)]
@@ -29,7 +27,7 @@ pub(crate) struct Hall {
 }
 
 // Which homes have an actor.
-fn used_homes(alloc: Global, workers: u32, homes: &[u32]) -> Result<Vec<bool>, OutOfMemory>
+fn used_homes(alloc: Global, workers: u32, homes: &[u32]) -> Result<Vec<bool>, AllocError>
     requires { All (λ home. home < workers) homes.now }
     ensures count { IfOk result (λ used. length used.items ≡ workers) }
     ensures used { IfOk result (λ used. All (λ home. slice_get used.items home ≡ Some true) homes.now) }
@@ -43,27 +41,27 @@ fn used_homes(alloc: Global, workers: u32, homes: &[u32]) -> Result<Vec<bool>, O
 }
 
 // The benches of these homes.
-fn hall_of(alloc: Global, used: &[bool]) -> Result<Hall, OutOfMemory>
+fn hall_of(alloc: Global, used: &[bool]) -> Result<Hall, AllocError>
     requires { length used.now ≤ most_workers }
     ensures { IfOk result (λ hall. HaveSeats used.now hall) }
 {
     let mut numbers = Vec::new(alloc);
     let mut benches = Vec::new(alloc);
     for (home, used) in used.iter().enumerate() {
-        push(&mut numbers, benches.len() as u32)?;
+        numbers.push(benches.len() as u32)?;
         if *used {
             let bench = Bench {
                 home: home as u32,
                 parts: Vec::new(alloc),
             };
-            push(&mut benches, bench)?;
+            benches.push(bench)?;
         }
     }
     Ok(Hall { numbers, benches })
 }
 
 // One part more on the bench of this number; where it is.
-fn sit_down(bench: &mut Bench, seat: u32, part: Part) -> Result<Place, OutOfMemory>
+fn sit_down(bench: &mut Bench, seat: u32, part: Part) -> Result<Place, AllocError>
     requires { length (benched bench.old) < 2 ^ 32 }
     ensures at { IfOk result (λ place. place ≡ record { seat = seat; part = length (benched bench.old) }) }
     ensures more { IfOk result (λ _. benched bench.new ≡ benched bench.old ++ part ∷ []) }
@@ -73,7 +71,7 @@ fn sit_down(bench: &mut Bench, seat: u32, part: Part) -> Result<Place, OutOfMemo
         seat,
         part: bench.parts.len() as u32,
     };
-    push(&mut bench.parts, part)?;
+    bench.parts.push(part)?;
     Ok(place)
 }
 
@@ -84,7 +82,7 @@ fn place_all(
     homes: &[u32],
     numbers: &[u32],
     benches: &mut [Bench],
-) -> Result<Vec<Place>, OutOfMemory>
+) -> Result<Vec<Place>, AllocError>
     requires numbered { AreNumbered parts.items }
     requires few { length parts.items ≤ limit_number limit.Actors }
     requires homes { length homes.now ≡ length parts.items }
@@ -99,13 +97,13 @@ fn place_all(
     for part in parts {
         let seat = numbers[homes[part.number as usize] as usize];
         let place = sit_down(&mut benches[seat as usize], seat, part)?;
-        push(&mut places, place)?;
+        places.push(place)?;
     }
     Ok(places)
 }
 
 // Workers of the benches.
-fn workers_of(alloc: Global, benches: Vec<Bench>) -> Result<Vec<Seat>, OutOfMemory>
+fn workers_of(alloc: Global, benches: Vec<Bench>) -> Result<Vec<Seat>, AllocError>
     requires { All (λ bench. CanWork (benched bench)) benches.items }
     ensures { IfOk result (λ seats. crew_of seats.items ≡ map benched benches.items) }
 {
@@ -115,7 +113,7 @@ fn workers_of(alloc: Global, benches: Vec<Bench>) -> Result<Vec<Seat>, OutOfMemo
             worker: Worker::new(bench.home, bench.parts),
             moves: 0,
         };
-        push(&mut seats, seat)?;
+        seats.push(seat)?;
     }
     Ok(seats)
 }
@@ -126,7 +124,7 @@ pub(crate) fn seat_parts(
     parts: Vec<Part>,
     workers: u32,
     homes: &[u32],
-) -> Result<(Vec<Seat>, Vec<Place>), OutOfMemory>
+) -> Result<(Vec<Seat>, Vec<Place>), AllocError>
     requires numbered { AreNumbered parts.items }
     requires few { length parts.items ≤ limit_number limit.Actors }
     requires can { CanWork parts.items }

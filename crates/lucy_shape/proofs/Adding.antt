@@ -5,17 +5,17 @@ use Rattle.std.proofs.lemmas.List.FromFn.{map-range_with_len_more}
 use Rattle.std.proofs.lemmas.List.{take_more}
 use Rattle.std.proofs.lemmas.Grind.{flat_map-append}
 use Rattle.lucy_solve.specs.declared.diffs.Diff.{Diff}
-use Rattle.lucy_solve.specs.System.{System}
+use Rattle.lucy_solve.specs.System.{DifferenceSystem}
 use Rattle.lucy_shape.specs.Added.{with_rows}
 
 append_nil : {A : Type 0} (xs : List A) → xs ≡ xs ++ []
 append_nil [] = refl
 append_nil (x ∷ xs) = ap (λ l. x ∷ l) (append_nil xs)
 
-abbrev with_list : ℕ → List Diff → System
+abbrev with_list : ℕ → List Diff → DifferenceSystem
 with_list n l = record { count = n; list = l }
 
-pub added_more : (old now next : System) (rows more all : List Diff) → now ≡ with_rows old rows → next ≡ with_rows now more → all ≡ rows ++ more → next ≡ with_rows old all
+pub added_more : (old now next : DifferenceSystem) (rows more all : List Diff) → now ≡ with_rows old rows → next ≡ with_rows now more → all ≡ rows ++ more → next ≡ with_rows old all
 added_more old now next rows more all e f g =
     f ∙ ap (λ s. with_rows s more) e ∙ ap (λ l. with_list old.count l) (append_assoc old.list rows more ∙ ap (λ l. old.list ++ l) (sym g))
 
@@ -39,20 +39,20 @@ flat_less f a (suc n) (suc i) l =
     omega arith
 
 -- one more row of a list by number, and one more piece
-pub step_map : (old now next : System) (f : ℕ → Diff) (a i : ℕ) (row : Diff) → now ≡ with_rows old (map f (range_with_len a i)) → next ≡ with_rows now (row ∷ []) → row ≡ f (a + i) →
+pub step_map : (old now next : DifferenceSystem) (f : ℕ → Diff) (a i : ℕ) (row : Diff) → now ≡ with_rows old (map f (range_with_len a i)) → next ≡ with_rows now (row ∷ []) → row ≡ f (a + i) →
     next ≡ with_rows old (map f (range_with_len a (i + 1)))
 step_map old now next f a i row e g h =
     added_more old now next (map f (range_with_len a i)) (row ∷ []) (map f (range_with_len a (i + 1))) e g
     (map-range_with_len_more f a i (a + i) refl ∙ ap (λ r. map f (range_with_len a i) ++ r ∷ []) (sym h))
 
-pub step_flat : (old now next : System) (f : ℕ → List Diff) (a i : ℕ) (rows : List Diff) → now ≡ with_rows old (flat_map f (range_with_len a i)) → next ≡ with_rows now rows → rows ≡ f (a + i) →
+pub step_flat : (old now next : DifferenceSystem) (f : ℕ → List Diff) (a i : ℕ) (rows : List Diff) → now ≡ with_rows old (flat_map f (range_with_len a i)) → next ≡ with_rows now rows → rows ≡ f (a + i) →
     next ≡ with_rows old (flat_map f (range_with_len a (i + 1)))
 step_flat old now next f a i rows e g h =
     added_more old now next (flat_map f (range_with_len a i)) rows (flat_map f (range_with_len a (i + 1))) e g
     (flat_more f a i ∙ ap (λ r. flat_map f (range_with_len a i) ++ r) (sym h))
 
 -- the rows of the first needs, and those of one more
-pub step_take : {A : Type 0} (old now next : System) (f : A → List Diff) (list : List A) (i : ℕ) (d : A) (rows : List Diff) → i < length list → now ≡ with_rows old (flat_map f (take i list)) →
+pub step_take : {A : Type 0} (old now next : DifferenceSystem) (f : A → List Diff) (list : List A) (i : ℕ) (d : A) (rows : List Diff) → i < length list → now ≡ with_rows old (flat_map f (take i list)) →
     next ≡ with_rows now rows → rows ≡ f (get_or list i d) → next ≡ with_rows old (flat_map f (take (i + 1) list))
 step_take old now next f list i d rows l e g h =
     let more : flat_map f (take (i + 1) list) ≡ flat_map f (take i list) ++ f (get_or list i d) = ap (flat_map f) (take_more list i d l) ∙ flat_map-append f (take i list) (get_or list i d ∷ []) ∙

@@ -6,7 +6,7 @@ use Rattle.lucy_shape.specs.Index.{index_of}
 use Rattle.lucy_shape.specs.Fitting.{clock_at, variable_of}
 use Rattle.lucy_shape.specs.Laws.{EarlierLaw}
 use Rattle.lucy_shape.proofs.Indexes.{decided}
-use Rattle.lucy_shape.proofs.Places.{index_none}
+use Rattle.lucy_shape.proofs.WordIndex.{index_none}
 
 pub earlier_law : EarlierLaw
 earlier_law shape v w xs ys laid of_v of_w at_v at_w before c u k =

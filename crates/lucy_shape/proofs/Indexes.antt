@@ -1,5 +1,5 @@
 -- Counts and the places that belong to them: where they come again, and which of them decide.
-use Rattle.std.proofs.Common.{◌≡◌, ℕ, ◌+◌, ◌-◌, ◌*◌, ◌/◌, ◌%◌, cond, leb, true, false, ◌<◌, ◌≤◌, ◌⊎◌, max, zero, suc, inl, inr, sym, ap, ◌∙◌, subst, arith}
+use Rattle.std.proofs.Common.{◌≡◌, ℕ, ◌+◌, ◌-◌, ◌*◌, ◌/◌, ◌%◌, cond, ◌<◌, ◌≤◌, max, zero, suc, inl, inr, sym, ap, ◌∙◌, subst, arith}
 use Rattle.std.proofs.lemmas.Bool.{cases_lt}
 use Rattle.std.proofs.lemmas.Bool.Decides.{nat_tests, leb_tells}
 use Rattle.std.proofs.lemmas.Nat.{mod-mul-add, div-mul-add}
@@ -139,20 +139,14 @@ below x n q P m h = grind (arith, nat_tests)
 past : (x : ℕ → ℕ) (n q P m : ℕ) → n < m → continued x n q P m ≡ x (n + 1 + (m - n - 1) % q) + (m - n - 1) / q * P
 past x n q P m h = grind (arith, nat_tests)
 
-mod_at : (f q j : ℕ) → j < q → (f * q + j) % q ≡ j
-mod_at f q j l = mod-mul-add f q j l
-
-div_at : (f q j : ℕ) → j < q → (f * q + j) / q ≡ f
-div_at f q j l = div-mul-add f q j l
-
 -- m = n + 1 + f * q + j, with j below q
 pub at_turn : (x : ℕ → ℕ) (n q P m f j : ℕ) → j < q → m ≡ n + 1 + (f * q + j) → continued x n q P m ≡ x (n + 1 + j) + f * P
 at_turn x n q P m f j l e =
     let some : 0 < q = omega arith in
     let a = past x n q P m (omega arith) in
     let b : m - n - 1 ≡ f * q + j = omega arith in
-    let c : (m - n - 1) % q ≡ j = ap (λ k. k % q) b ∙ mod_at f q j l in
-    let d : (m - n - 1) / q ≡ f = ap (λ k. k / q) b ∙ div_at f q j l in
+    let c : (m - n - 1) % q ≡ j = ap (λ k. k % q) b ∙ mod-mul-add f q j l in
+    let d : (m - n - 1) / q ≡ f = ap (λ k. k / q) b ∙ div-mul-add f q j l in
     let g : x (n + 1 + (m - n - 1) % q) ≡ x (n + 1 + j) = ap (λ k. x (n + 1 + k)) c in
     let h : (m - n - 1) / q * P ≡ f * P = ap (λ k. k * P) d in
     omega arith
@@ -194,13 +188,10 @@ continued_rises x n q P some up turn m = elim (cases_lt n m) [
       ]
 ]
 
-cases_leb : (a b : ℕ) → ((leb a b ≡ true) × (a ≤ b)) ⊎ ((leb a b ≡ false) × (b < a))
-cases_leb a b = leb_tells a b
-
 -- each count that rises without end has an index, here with a bound on where the k-th one stands
 least_there : (O : ℕ → ℕ) (k n : ℕ) → k ≤ O n → k ≤ O (least O k n)
 least_there O k zero h = h
-least_there O k (suc n) h = elim (cases_leb k (O n)) [
+least_there O k (suc n) h = elim (leb_tells k (O n)) [
   | inl w ↦ let a : least O k (suc n) ≡ least O k n = ap (λ b. cond b (least O k n) (suc n)) w.0 in
       rw a (least_there O k n w.1)
   | inr w ↦ let a : least O k (suc n) ≡ suc n = ap (λ b. cond b (least O k n) (suc n)) w.0 in rw a h
@@ -208,7 +199,7 @@ least_there O k (suc n) h = elim (cases_leb k (O n)) [
 
 least_first : (O : ℕ → ℕ) → Rises O → (k n i : ℕ) → i ≤ n → k ≤ O i → least O k n ≤ i
 least_first O up k zero i l h = omega arith
-least_first O up k (suc n) i l h = elim (cases_leb k (O n)) [
+least_first O up k (suc n) i l h = elim (leb_tells k (O n)) [
   | inl w ↦ let a : least O k (suc n) ≡ least O k n = ap (λ b. cond b (least O k n) (suc n)) w.0 in
       elim (cases_lt n i) [
         | inl m ↦ let b = least_first O up k n n (omega arith) w.1 in omega arith

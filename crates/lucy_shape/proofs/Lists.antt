@@ -1,9 +1,9 @@
 -- What holds of each element of lists that are made piece by piece.
-use Rattle.std.proofs.Common.{◌≡◌, ℕ, ◌+◌, ◌<◌, ◌≤◌, zero, suc, List, ◌++◌, length, take, map, inl, inr, sym, ap, ◌∙◌, subst, arith}
+use Rattle.std.proofs.Common.{ℕ, ◌+◌, ◌<◌, ◌≤◌, zero, suc, List, map, inl, inr, subst, arith}
 use Rattle.std.specs.List.{AllByRecursion, range_with_len, flat_map}
 use Rattle.std.proofs.lemmas.Bool.{cases_eq}
-use Rattle.std.proofs.lemmas.List.{take-append-le, take_all}
-use Rattle.lucy_need.proofs.AllLaws.{all_join, all_front, all_back}
+use Rattle.lucy_word.proofs.Lists.{all_join}
+use Rattle.lucy_need.proofs.AllLaws.{all_front, all_back}
 
 pub all_map : {A : Type 0} (P : A → Type 0) (f : ℕ → A) (a n : ℕ) → ((j : ℕ) → a ≤ j → j < a + n → P (f j)) → AllByRecursion P (map f (range_with_len a n))
 all_map P f a zero h = tt
@@ -26,7 +26,3 @@ all_flat_at P f a (suc n) h j l k = elim (cases_eq a j) [
   | inl e ↦ subst (λ (i : ℕ). AllByRecursion P (f i)) e (all_front P (f a) (flat_map f (range_with_len (a + 1) n)) h)
   | inr e ↦ all_flat_at P f (a + 1) n (all_back P (f a) (flat_map f (range_with_len (a + 1) n)) h) j (omega arith) (omega arith)
 ]
-
--- a vector's items once a slice of all of them is given back
-pub given_back : {A : Type 0} (n : ℕ) (slice rest : List A) → length slice ≡ n → take n (slice ++ rest) ≡ slice
-given_back n slice rest e = ap (λ m. take m (slice ++ rest)) (sym e) ∙ take-append-le (length slice) slice rest (omega arith) ∙ take_all (length slice) slice (omega arith)

@@ -12,10 +12,11 @@ use Rattle.lucy_word.specs.Bits.{Bits, ones_to, ones_in, IsWord}
 use Rattle.lucy_word.proofs.BitsLaws.{period_some}
 use Rattle.lucy_word.proofs.SamplingLaws.{ones_to-on}
 use Rattle.lucy_word.proofs.OnLaws.{on_some}
+use Rattle.lucy_word.proofs.Lists.{all_join}
 use Rattle.lucy_need.specs.declared.need.Term.{Term}
 use Rattle.lucy_need.specs.declared.need.Need.{Need}
 use Rattle.lucy_need.specs.declared.need.Need.TheVariants.{Equal, Adapt}
-use Rattle.lucy_need.proofs.AllLaws.{all_join, all_front, all_back}
+use Rattle.lucy_need.proofs.AllLaws.{all_front, all_back}
 use Rattle.lucy_solve.specs.declared.diffs.Diff.{Diff}
 use Rattle.lucy_solve.specs.System.{value, diff_at, no_diff}
 use Rattle.lucy_shape.specs.declared.shape.ClockShape.{ClockShape}

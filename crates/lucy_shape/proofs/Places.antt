@@ -1,12 +1,12 @@
 -- Words and the places of their ones.
-use Rattle.std.proofs.Common.{◌≡◌, ℕ, ◌+◌, ◌-◌, ◌*◌, ◌<◌, ◌≤◌, max, Bool, true, false, zero, suc, length, inl, inr, sym, ap, ◌∙◌, subst, refl, arith}
+use Rattle.std.proofs.Common.{◌≡◌, ℕ, ◌+◌, ◌-◌, ◌*◌, ◌<◌, ◌≤◌, max, true, false, zero, suc, length, inl, inr, sym, ap, ◌∙◌, subst, arith}
 use Rattle.std.proofs.lemmas.Bool.{cases_lt}
 use Rattle.std.proofs.Math.Nat.{eq_of_mul-eq-mul_right}
 use Rattle.lucy_word.specs.Bits.{Bits, bit_at, one_if, ones_to, ones_in, IsWord}
 use Rattle.lucy_word.specs.Sampling.{bit_on}
 use Rattle.lucy_word.specs.Shortest.{Same}
 use Rattle.lucy_word.specs.Adaptable.{SameRate}
-use Rattle.lucy_word.proofs.BitsLaws.{ones_to-none, ones_to-more}
+use Rattle.lucy_word.proofs.BitsLaws.{ones_to-none, ones_to-more, same_bit}
 use Rattle.lucy_word.proofs.IndexLaws.{ones_to-same}
 use Rattle.lucy_word.proofs.OnLaws.{always_count, count_on}
 use Rattle.lucy_shape.proofs.Indexes.{one_index, index_turn, rate, fits_later}
@@ -38,9 +38,6 @@ index_rises w is m =
           ]
     ]
 
-pub index_none : (w : Bits) → IsWord w → index_of w 0 ≡ 0
-index_none w h = let a = (word_index w h).first 0 0 (omega arith) in omega arith
-
 pub index_some : (w : Bits) → IsWord w → (m : ℕ) → 0 < m → 0 < index_of w m
 index_some w is m some =
     let a = index_rises w is (m - 1) in
@@ -57,12 +54,6 @@ index_always w same is k =
     }) k
 
 -- the bits of terms with the same counts are the same
-same_one : (x y : Bool) → one_if x ≡ one_if y → x ≡ y
-same_one true true h = refl
-same_one true false h = absurd (omega arith)
-same_one false true h = absurd (omega arith)
-same_one false false h = refl
-
 pub same_bits : (a u b v : Bits) → ((i : ℕ) → ones_on a u i ≡ ones_on b v i) → (i : ℕ) → 0 < i → bit_on a u i ≡ bit_on b v i
 same_bits a u b v same i some =
     let P : ℕ → Type 0 = λ k. bit_on a u k ≡ bit_on b v k in
@@ -70,7 +61,7 @@ same_bits a u b v same i some =
     let y = same (i - 1 + 1) in
     let p = count_on a u (i - 1) in
     let q = count_on b v (i - 1) in
-    subst P (let e : i - 1 + 1 ≡ i = omega arith in e) (same_one (bit_on a u (i - 1 + 1)) (bit_on b v (i - 1 + 1)) (omega arith))
+    subst P (let e : i - 1 + 1 ≡ i = omega arith in e) (same_bit (bit_on a u (i - 1 + 1)) (bit_on b v (i - 1 + 1)) (omega arith))
 
 -- and same bits have the same counts
 pub same_counts : (a u b v : Bits) → ((i : ℕ) → 0 < i → bit_on a u i ≡ bit_on b v i) → (i : ℕ) → ones_on a u i ≡ ones_on b v i

@@ -8,12 +8,13 @@ use Rattle.std.proofs.lemmas.Nat.{mul-le}
 use Rattle.lucy_word.specs.Bits.{ones_to}
 use Rattle.lucy_word.specs.Always.{always}
 use Rattle.lucy_word.proofs.OnLaws.{always_count}
+use Rattle.lucy_word.proofs.Lists.{all_join}
 use Rattle.lucy_need.specs.Meeting.{Assignment, alone}
 use Rattle.lucy_need.specs.declared.need.Need.{Need}
 use Rattle.lucy_need.specs.declared.need.Need.TheVariants.{Adapt}
 use Rattle.lucy_need.specs.declared.need.Needs.{Needs}
-use Rattle.lucy_need.proofs.AllLaws.{all_join, all_front, all_back}
-use Rattle.lucy_solve.specs.System.{most_inequalities, System, IsGrounded, IsBase, Solves, no_diff}
+use Rattle.lucy_need.proofs.AllLaws.{all_front, all_back}
+use Rattle.lucy_solve.specs.System.{most_inequalities, DifferenceSystem, IsGrounded, IsBase, Solves, no_diff}
 use Rattle.lucy_shape.specs.declared.shape.ClockShape.{ClockShape}
 use Rattle.lucy_shape.specs.declared.shape.Shape.{Shape}
 use Rattle.lucy_shape.specs.Added.{with_rows, IsPlaced, IsFoldable, IsNeedSpreadable}
@@ -56,7 +57,8 @@ waits_from O I R J size a b h i = elim (cases_lt size (O i)) [
 alone_lead : (lead : ℕ) → lead_instances lead always ≡ lead
 alone_lead lead = let a = always_count (max lead (length always.prefix)) in omega arith
 
-alone_turn : (clocks : List ClockShape) (c : ℕ) → turn_instances clocks (alone c) ≡ (clock_at clocks c).ones
+-- a clock alone has its ones as instances
+pub alone_turn : (clocks : List ClockShape) (c : ℕ) → turn_instances clocks (alone c) ≡ (clock_at clocks c).ones
 alone_turn clocks c = div-one ((clock_at clocks c).ones)
   where
     div-one : (n : ℕ) → n * 1 / 1 ≡ n
@@ -205,7 +207,7 @@ sized_ready needs shape from to size is few =
       based = λ v some l. has_left no_diff (IsBase v) (inequalities needs shape) (size_rows shape.period shape.clocks from to size) (front.based v some l);
     }
 
-pub sized_is : (needs : Needs) (shape : Shape) (from to size : ℕ) (clocks : List ClockShape) (first last : System) → clocks ≡ shape.clocks → first ≡ system_of needs shape →
+pub sized_is : (needs : Needs) (shape : Shape) (from to size : ℕ) (clocks : List ClockShape) (first last : DifferenceSystem) → clocks ≡ shape.clocks → first ≡ system_of needs shape →
     last ≡ with_rows first (size_rows shape.period clocks from to size) → last ≡ sized_system needs shape from to size
 sized_is needs shape from to size clocks first last e f g =
     g ∙ ap (λ s. with_rows s (size_rows shape.period clocks from to size)) f ∙ ap (λ (l : List ClockShape). with_rows (system_of needs shape) (size_rows shape.period l from to size)) e

@@ -3,7 +3,7 @@ use Rattle.std.proofs.Common.{ℕ, ◌≤◌, List, [], length, ℤ}
 use Rattle.std.specs.List.{flat_map, AllByRecursion}
 use Rattle.lucy_need.specs.declared.need.Needs.{Needs}
 use Rattle.lucy_need.proofs.AllLaws.{all_front}
-use Rattle.lucy_solve.specs.System.{most_inequalities, System, IsGrounded, IsBase, Solves, no_diff}
+use Rattle.lucy_solve.specs.System.{most_inequalities, DifferenceSystem, IsGrounded, IsBase, Solves, no_diff}
 use Rattle.lucy_shape.specs.declared.shape.Shape.{Shape}
 use Rattle.lucy_shape.proofs.Bases.{base_of, has_left}
 use Rattle.lucy_shape.proofs.Meeting.{each_from, each_to, meeting_law}
@@ -33,5 +33,5 @@ fits_and_meets needs shape xs is words solves =
     let f = fitting_law shape xs is.laid (solves_front needs shape xs solves) in
     (f.0, f.1, f.2, (meeting_law needs shape f.0 xs words is f.1 f.2).1 solves)
 
-abbrev empty : ℕ → System
+abbrev empty : ℕ → DifferenceSystem
 empty n = record { count = n; list = [] }

@@ -1,25 +1,18 @@
 -- The places of the ones of a word, and of the ones of a need.
-use Rattle.std.proofs.Common.{◌≡◌, ℕ, ◌+◌, ◌-◌, ◌*◌, ◌<◌, ◌≤◌, zero, suc, length, ap, ◌∙◌, subst, arith}
+use Rattle.std.proofs.Common.{◌≡◌, ℕ, ◌+◌, ◌-◌, ◌*◌, ◌<◌, ◌≤◌, length, ap, ◌∙◌, subst, arith}
 use Rattle.std.proofs.Math.Nat.{mul-le-mul_left}
 use Rattle.lucy_word.specs.Bits.{Bits, ones_to, ones_in, IsWord}
-use Rattle.lucy_word.proofs.BitsLaws.{ones_to-more, ones_to-turn, ones_to-turns}
+use Rattle.lucy_word.proofs.BitsLaws.{ones_to-turn, ones_to-turns}
 use Rattle.lucy_shape.proofs.Indexes.{has_index, indexes, on_index, need_exact, IsSide}
 use Rattle.lucy_shape.specs.Index.{Recurs, index_of}
 use Rattle.lucy_shape.specs.Laws.{IsSideOf, NeedLaw, PlaceLaw}
 use Rattle.lucy_word.specs.Index.{IsIndex}
 use Rattle.lucy_word.proofs.IndexLaws.{IsIndex-some, IsIndex-behind}
+use Rattle.lucy_word.proofs.ShortLaws.{ones_to-later}
 use Rattle.lucy_shape.specs.Turning.{IsInverse, Rises, Turns, ones_on}
 
-rises_by : (w : Bits) (i d : ℕ) → ones_to w i ≤ ones_to w (i + d)
-rises_by w i zero = let a : ones_to w (i + 0) ≡ ones_to w i = ap (ones_to w) (omega arith) in omega arith
-rises_by w i (suc d) =
-    let a = rises_by w i d in
-    let b = ones_to-more w (i + d) in
-    let c : ones_to w (i + suc d) ≡ ones_to w (i + d + 1) = ap (ones_to w) (omega arith) in
-    omega arith
-
 pub word_rises : (w : Bits) → Rises (ones_to w)
-word_rises w i j h = let a = rises_by w i (j - i) in let b : ones_to w (i + (j - i)) ≡ ones_to w j = ap (ones_to w) (omega arith) in omega arith
+word_rises w i j h = let a = ones_to-later w i (j - i) in let b : ones_to w (i + (j - i)) ≡ ones_to w j = ap (ones_to w) (omega arith) in omega arith
 
 pub word_turns : (w : Bits) → Turns (ones_to w) (length w.prefix) (length w.period) (ones_in w.period)
 word_turns w i h =
@@ -56,7 +49,8 @@ place_law w k is =
     let found = IsIndex-some w k is in
     subst (λ (i : ℕ). IsIndex w k i) (place_is w k found.0 is found.1) found.1
 
-index_none : (w : Bits) → IsWord w → index_of w 0 ≡ 0
+-- the place of the ones before the first is 0
+pub index_none : (w : Bits) → IsWord w → index_of w 0 ≡ 0
 index_none w h = let a = (word_index w h).first 0 0 (omega arith) in omega arith
 
 side : (a u : Bits) (n q P Q : ℕ) → IsWord a → IsWord u → (s : IsSideOf q Q u) → Recurs (index_of a) n q P →

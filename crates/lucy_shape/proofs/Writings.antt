@@ -117,7 +117,8 @@ same_up X n q some none fits low (suc b) k l = elim (cases_lt (n + q) k) [
 same_as : (X : ℕ → ℕ) (n q : ℕ) → 0 < q → X 0 ≡ 0 → ((m : ℕ) → n < m → X (m + q) ≡ X m + q) → ((m : ℕ) → 0 < m → m ≤ n + q → X m ≡ m) → (k : ℕ) → X k ≡ k
 same_as X n q some none fits low k = same_up X n q some none fits low k k (omega arith)
 
-past : (words : List Bits) → length words ≤ 0 → assigned words 0 ≡ always
+-- past the words a clock has (1)
+pub past : (words : List Bits) → length words ≤ 0 → assigned words 0 ≡ always
 past [] h = refl
 past (w ∷ words) h = absurd (omega arith)
 

@@ -3,7 +3,7 @@ use Rattle.std.specs.Prelude.{ℕ, ◌+◌, ◌*◌, ◌<◌, ◌≤◌, ◌≡�
 use Prim.Native.Nat.{◌∣◌}
 use Rattle.lucy_word.specs.Bits.{Bits, IsWord, most_bits}
 use Rattle.lucy_solve.specs.declared.diffs.Diff.{Diff}
-use Rattle.lucy_solve.specs.System.{System, most_constant}
+use Rattle.lucy_solve.specs.System.{DifferenceSystem, most_constant}
 use Rattle.lucy_shape.specs.declared.shape.ClockShape.{ClockShape}
 use Rattle.lucy_shape.specs.Fitting.{most_positions, clock_at}
 use Rattle.lucy_shape.specs.Index.{index_of}
@@ -13,7 +13,7 @@ use Rattle.lucy_need.specs.declared.need.Need.{Need}
 use Rattle.lucy_need.specs.declared.need.Need.TheVariants.{Equal, Adapt}
 
 -- the rows, behind those that were there
-abbrev pub with_rows : System → List Diff → System
+abbrev pub with_rows : DifferenceSystem → List Diff → DifferenceSystem
 with_rows system rows = record { count = system.count; list = system.list ++ rows }
 
 -- a clock whose positions are among so many variables

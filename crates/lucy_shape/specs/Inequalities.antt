@@ -7,7 +7,7 @@ use Rattle.lucy_need.specs.declared.need.Need.{Need}
 use Rattle.lucy_need.specs.declared.need.Need.TheVariants.{Equal, Adapt}
 use Rattle.lucy_need.specs.declared.need.Needs.{Needs}
 use Rattle.lucy_solve.specs.declared.diffs.Diff.{Diff}
-use Rattle.lucy_solve.specs.System.{System, Solves}
+use Rattle.lucy_solve.specs.System.{DifferenceSystem, Solves}
 use Rattle.lucy_shape.specs.declared.shape.ClockShape.{ClockShape}
 use Rattle.lucy_shape.specs.declared.shape.Shape.{Shape}
 use Rattle.lucy_shape.specs.Index.{index_of}
@@ -61,7 +61,7 @@ abbrev pub inequalities : Needs → Shape → List Diff
 inequalities needs shape = shape_rows shape ++ flat_map (need_rows shape.period shape.clocks) needs.list
 
 -- the table between the variables
-abbrev pub system_of : Needs → Shape → System
+abbrev pub system_of : Needs → Shape → DifferenceSystem
 system_of needs shape = record { count = variable_count shape.clocks; list = inequalities needs shape }
 
 -- the numbers meet bounds, neighbours and periods

@@ -6,7 +6,7 @@ use Rattle.lucy_need.specs.Meeting.{Assignment, MeetsAll, alone}
 use Rattle.lucy_need.specs.declared.need.Need.TheVariants.{Adapt}
 use Rattle.lucy_need.specs.declared.need.Needs.{Needs}
 use Rattle.lucy_solve.specs.declared.diffs.Diff.{Diff}
-use Rattle.lucy_solve.specs.System.{System, Solves}
+use Rattle.lucy_solve.specs.System.{DifferenceSystem, Solves}
 use Rattle.lucy_shape.specs.declared.shape.ClockShape.{ClockShape}
 use Rattle.lucy_shape.specs.declared.shape.Shape.{Shape}
 use Rattle.lucy_need.specs.Stored.{HasWords}
@@ -27,7 +27,7 @@ abbrev pub sized_inequalities : Needs → Shape → (from to size : ℕ) → Lis
 sized_inequalities needs shape from to size = inequalities needs shape ++ size_rows shape.period shape.clocks from to size
 
 -- that table between the variables
-abbrev pub sized_system : Needs → Shape → (from to size : ℕ) → System
+abbrev pub sized_system : Needs → Shape → (from to size : ℕ) → DifferenceSystem
 sized_system needs shape from to size = record { count = variable_count shape.clocks; list = sized_inequalities needs shape from to size }
 
 -- at every instant no more than so many of the items that a gave are still to be taken by b

@@ -6,8 +6,9 @@ use Rattle.std.proofs.lemmas.List.{take_all}
 use Rattle.std.proofs.lemmas.List.Sums.{fold_more}
 use borrow.Author.Count.{below_more}
 use Rattle.lucy_solve.specs.declared.diffs.Diff.{Diff}
-use Rattle.lucy_solve.specs.System.{System, diff_at, IsProper, Solves, HasNoSolution, value, constants, IsNegativeCycle, most_constant, most_inequalities}
+use Rattle.lucy_solve.specs.System.{DifferenceSystem, diff_at, IsProper, Solves, HasNoSolution, value, constants, IsNegativeCycle, most_constant, most_inequalities}
 
+-- the constants of one difference more
 pub constants_more : (list : List Diff) (cycle : List ℕ) (k : ℕ) → k < length cycle → constants list (take (k + 1) cycle) ≡ constants list (take k cycle) +ℤ (diff_at list (get_or cycle k 0)).most
 constants_more list cycle k h = fold_more (λ s i. s +ℤ (diff_at list i).most) (pos 0) cycle k 0 h
 
@@ -59,7 +60,7 @@ walked_more list cycle k at to sum sum' count w h i p e f g = record {
 }
 
 -- along a chain a solution does not rise by more than the constants
-pub telescoped : (s : System) (ys : List ℤ) (cycle : List ℕ) → Solves s ys → IsNegativeCycle s.list cycle → (j : ℕ) → j < length cycle →
+pub telescoped : (s : DifferenceSystem) (ys : List ℤ) (cycle : List ℕ) → Solves s ys → IsNegativeCycle s.list cycle → (j : ℕ) → j < length cycle →
     value ys (diff_at s.list (get_or cycle 0 0)).left ≤ℤ (value ys (diff_at s.list (get_or cycle j 0)).right +ℤ constants s.list (take (j + 1) cycle))
 telescoped s ys cycle h n zero l =
     let a = h.each (get_or cycle 0 0) (n.within 0 l) in
@@ -78,7 +79,7 @@ telescoped s ys cycle h n (suc j) l =
     let e : value ys (diff_at s.list (get_or cycle j 0)).right ≡ value ys (diff_at s.list (get_or cycle (suc j) 0)).left = ap (value ys) d in
     omega (arith, ints)
 
-pub refuted : (s : System) (cycle : List ℕ) → IsNegativeCycle s.list cycle → HasNoSolution s
+pub refuted : (s : DifferenceSystem) (cycle : List ℕ) → IsNegativeCycle s.list cycle → HasNoSolution s
 refuted s cycle n ys h =
     let k = length cycle - 1 in
     let some : 0 < length cycle = n.some in

@@ -2,7 +2,7 @@
 use Rattle.std.proofs.Common.{◌-◌, ◌≡◌, ℕ, ◌+◌, ◌<◌, ◌≤◌, ℤ, pos, negsuc, ◌+ℤ◌, ◌≤ℤ◌, ◌<ℤ◌, List, length, take, get_or, zero, suc, ap, ◌∙◌, subst, refl, arith}
 use Rattle.std.proofs.lemmas.Int.{ints}
 use Rattle.std.proofs.lemmas.List.{take_all}
-use Rattle.lucy_solve.specs.System.{System, diff_at, IsSystem, HasNoSolution, constants, IsNegativeCycle, most_inequalities}
+use Rattle.lucy_solve.specs.System.{DifferenceSystem, diff_at, IsSystem, HasNoSolution, constants, IsNegativeCycle, most_inequalities}
 use Rattle.lucy_solve.specs.Search.{IsLift, IsReached}
 use Rattle.lucy_solve.proofs.Chains.{constants_more, refuted}
 use Rattle.lucy_solve.specs.Parents.{IsRound, HasTargets}
@@ -14,17 +14,17 @@ by_cases (pos (suc n)) a h m = absurd (omega (arith, ints))
 by_cases (negsuc n) a h m = omega (arith, ints)
 
 -- what a circle of parents adds up to, as far as its position j
-record IsFalling (s : System) (x : List ℕ) (rank : ℕ → ℕ) (cycle : List ℕ) (j : ℕ) : Type 0 where
+record IsFalling (s : DifferenceSystem) (x : List ℕ) (rank : ℕ → ℕ) (cycle : List ℕ) (j : ℕ) : Type 0 where
   most : (pos (get_or x (diff_at s.list (get_or cycle j 0)).right 0) +ℤ constants s.list (take (j + 1) cycle)) ≤ℤ pos (get_or x (diff_at s.list (get_or cycle 0 0)).left 0)
   strict : (pos (get_or x (diff_at s.list (get_or cycle j 0)).right 0) +ℤ constants s.list (take (j + 1) cycle)) ≡ pos (get_or x (diff_at s.list (get_or cycle 0 0)).left 0) →
       rank (diff_at s.list (get_or cycle 0 0)).left < rank (diff_at s.list (get_or cycle j 0)).right
 
-link : (s : System) (x parents : List ℕ) (h : IsReached s x parents) → IsSystem s → (i : ℕ) → i < length s.list → get_or parents (diff_at s.list i).right 0 ≡ i → IsLift s.list x h.rank (diff_at s.list i).right i
+link : (s : DifferenceSystem) (x parents : List ℕ) (h : IsReached s x parents) → IsSystem s → (i : ℕ) → i < length s.list → get_or parents (diff_at s.list i).right 0 ≡ i → IsLift s.list x h.rank (diff_at s.list i).right i
 link s x parents h p i l e =
     let r = (diff_at s.list i).right in
     subst (λ (j : ℕ). IsLift s.list x h.rank r j) e (h.lifted r (proper s p i l).right (omega arith))
 
-falling : (s : System) (x parents cycle : List ℕ) (h : IsReached s x parents) → IsSystem s → IsRound s parents cycle → (j : ℕ) → j < length cycle → IsFalling s x h.rank cycle j
+falling : (s : DifferenceSystem) (x parents cycle : List ℕ) (h : IsReached s x parents) → IsSystem s → IsRound s parents cycle → (j : ℕ) → j < length cycle → IsFalling s x h.rank cycle j
 falling s x parents cycle h p r zero l =
     let i = get_or cycle 0 0 in
     let in' = r.within 0 l in
@@ -49,7 +49,7 @@ falling s x parents cycle h p r (suc j) l =
     let strict = subst (λ (m : ℕ). (pos (get_or x (diff_at s.list (get_or cycle j 0)).right 0) +ℤ constants s.list (take m cycle)) ≡ pos (get_or x (diff_at s.list (get_or cycle 0 0)).left 0) → h.rank (diff_at s.list (get_or cycle 0 0)).left < h.rank (diff_at s.list (get_or cycle j 0)).right) same (falling s x parents cycle h p r j (omega arith)).strict in
     record { most = omega (arith, ints); strict = λ g. let u = strict (omega (arith, ints)) in let w = k.strict (omega (arith, ints)) in omega arith }
 
-pub negative : (s : System) (x parents cycle : List ℕ) → IsReached s x parents → IsSystem s → length s.list ≤ most_inequalities → IsRound s parents cycle → IsNegativeCycle s.list cycle
+pub negative : (s : DifferenceSystem) (x parents cycle : List ℕ) → IsReached s x parents → IsSystem s → length s.list ≤ most_inequalities → IsRound s parents cycle → IsNegativeCycle s.list cycle
 negative s x parents cycle h p few r =
     let k = length cycle - 1 in
     let some : 0 < length cycle = r.some in
@@ -70,8 +70,8 @@ negative s x parents cycle h p few r =
       negative = by_cases (constants s.list cycle) (pos (get_or x (diff_at s.list (get_or cycle k 0)).right 0)) (omega (arith, ints)) (λ z. let u = strict (omega (arith, ints)) in absurd (omega arith));
     }
 
-pub targets : (s : System) (x parents : List ℕ) → IsReached s x parents → HasTargets s parents
+pub targets : (s : DifferenceSystem) (x parents : List ℕ) → IsReached s x parents → HasTargets s parents
 targets s x parents h v k l = (h.lifted v k l).target
 
-pub refuses : (s : System) (x parents cycle : List ℕ) → IsReached s x parents → IsSystem s → length s.list ≤ most_inequalities → IsRound s parents cycle → IsNegativeCycle s.list cycle × HasNoSolution s
+pub refuses : (s : DifferenceSystem) (x parents cycle : List ℕ) → IsReached s x parents → IsSystem s → length s.list ≤ most_inequalities → IsRound s parents cycle → IsNegativeCycle s.list cycle × HasNoSolution s
 refuses s x parents cycle h p few r = let a = negative s x parents cycle h p few r in (a, refuted s cycle a)

@@ -6,14 +6,14 @@ use Rattle.std.proofs.lemmas.List.{get_or-set_same, get_or-set_other, length-set
 use Rattle.std.proofs.lemmas.List.Sums.{sum_by-set}
 use Rattle.std.proofs.lemmas.List.Folds.{sum_by-replicate}
 use Rattle.lucy_solve.specs.declared.diffs.Diff.{Diff}
-use Rattle.lucy_solve.specs.System.{System, diff_at, IsSystem}
+use Rattle.lucy_solve.specs.System.{DifferenceSystem, diff_at, IsSystem}
 use Rattle.lucy_solve.specs.Climb.{is_marked, IsClimb}
 use Rattle.lucy_solve.specs.Parents.{HasTargets}
 use Rattle.lucy_solve.proofs.Places.{at_set, first_at}
 use Rattle.lucy_solve.proofs.Lifts.{proper}
 use Rattle.lucy_solve.proofs.Counting.{marked_few}
 
-pub climb_few : (s : System) (parents marks path : List ℕ) (before start at : ℕ) → IsClimb s parents marks path before start at → HasTargets s parents → before + length path ≤ length s.list
+pub climb_few : (s : DifferenceSystem) (parents marks path : List ℕ) (before start at : ℕ) → IsClimb s parents marks path before start at → HasTargets s parents → before + length path ≤ length s.list
 climb_few s parents marks path before start at h t =
     let size = h.size in
     let total = h.total in
@@ -29,7 +29,7 @@ none_at n v = elim (cases_lt v n) [
   | inr l ↦ let a : get_or (replicate {A = ℕ} n 0) v 0 ≡ 0 = get_or_past (replicate n 0) v 0 (let b = length-replicate {A = ℕ} n 0 in omega arith) in omega arith
 ]
 
-pub climb_none : (s : System) (parents : List ℕ) → IsClimb s parents (replicate s.count 0) [] 0 0 0
+pub climb_none : (s : DifferenceSystem) (parents : List ℕ) → IsClimb s parents (replicate s.count 0) [] 0 0 0
 climb_none s parents = record {
   size = length-replicate s.count 0;
   begun = λ k e. refl;
@@ -61,7 +61,7 @@ pushed path i j l = elim (cases_lt j (length path)) [
 ]
 
 -- the path goes on from `at` by its parent i
-pub climb_mark : (s : System) (parents marks path : List ℕ) (before start at i mark : ℕ) → IsClimb s parents marks path before start at → HasTargets s parents → IsSystem s → at < s.count → get_or marks at 0 ≡ 0 →
+pub climb_mark : (s : DifferenceSystem) (parents marks path : List ℕ) (before start at i mark : ℕ) → IsClimb s parents marks path before start at → HasTargets s parents → IsSystem s → at < s.count → get_or marks at 0 ≡ 0 →
     i ≡ get_or parents at 0 → i < length s.list → mark ≡ before + length path + 1 → IsClimb s parents (set marks at mark) (path ++ i ∷ []) before start (diff_at s.list i).left
 climb_mark s parents marks path before start at i mark h t p k zero_at e l f =
     let size = h.size in
@@ -130,7 +130,7 @@ climb_mark s parents marks path before start at i mark h t p k zero_at e l f =
     }
 
 -- one step of `climb`, over the list that it reads
-pub climb_step : (s : System) (list : List Diff) (parents marks path path' : List ℕ) (before start at i : ℕ) (d : Diff) → list ≡ s.list → IsClimb s parents marks path before start at → HasTargets s parents → IsSystem s → at < s.count → get_or marks at 0 ≡ 0 →
+pub climb_step : (s : DifferenceSystem) (list : List Diff) (parents marks path path' : List ℕ) (before start at i : ℕ) (d : Diff) → list ≡ s.list → IsClimb s parents marks path before start at → HasTargets s parents → IsSystem s → at < s.count → get_or marks at 0 ≡ 0 →
     i ≡ get_or parents at 0 → i < length list → d ≡ diff_at list i → path' ≡ path ++ i ∷ [] → (n : ℕ) → n ≡ before + length path' → IsClimb s parents (set marks at n) path' before start d.left × (d.left < s.count)
 climb_step s list parents marks path path' before start at i d same h t p k zero_at e l f g n m =
     let in' : i < length s.list = subst (λ (x : List Diff). i < length x) same l in
@@ -141,12 +141,12 @@ climb_step s list parents marks path path' before start at i d same h t p k zero
     let P : List ℕ → ℕ → Type 0 = λ xs v. IsClimb s parents (set marks at n) xs before start v in
     (subst (λ (v : ℕ). P path' v) left (subst (λ (xs : List ℕ). P xs (diff_at s.list i).left) (sym g) a), omega arith)
 
-pub climb_bound : (s : System) (list : List Diff) (parents marks path path' : List ℕ) (before start at i : ℕ) (d : Diff) → list ≡ s.list → IsClimb s parents marks path before start at → HasTargets s parents → IsSystem s → at < s.count → get_or marks at 0 ≡ 0 →
+pub climb_bound : (s : DifferenceSystem) (list : List Diff) (parents marks path path' : List ℕ) (before start at i : ℕ) (d : Diff) → list ≡ s.list → IsClimb s parents marks path before start at → HasTargets s parents → IsSystem s → at < s.count → get_or marks at 0 ≡ 0 →
     i ≡ get_or parents at 0 → i < length list → d ≡ diff_at list i → path' ≡ path ++ i ∷ [] → before + length path' ≤ length s.list
 climb_bound s list parents marks path path' before start at i d same h t p k zero_at e l f g =
     climb_few s parents _ path' before start d.left (climb_step s list parents marks path path' before start at i d same h t p k zero_at e l f g (before + length path') refl).0 t
 
-pub climb_first : (s : System) (parents marks path : List ℕ) → marks ≡ replicate s.count 0 → path ≡ [] → IsClimb s parents marks path 0 0 0 × (path ≡ [])
+pub climb_first : (s : DifferenceSystem) (parents marks path : List ℕ) → marks ≡ replicate s.count 0 → path ≡ [] → IsClimb s parents marks path 0 0 0 × (path ≡ [])
 climb_first s parents marks path e f =
     let P : List ℕ → List ℕ → Type 0 = λ marks path. IsClimb s parents marks path 0 0 0 in
     (subst (P marks) (sym f) (subst (λ (x : List ℕ). P x []) (sym e) (climb_none s parents)), f)

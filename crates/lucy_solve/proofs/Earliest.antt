@@ -3,12 +3,12 @@ use Rattle.std.proofs.Common.{inl, inr, ◌≡◌, ℕ, ◌<◌, ◌≤◌, ◌�
 use Rattle.std.proofs.lemmas.Int.{ints}
 use Rattle.std.proofs.lemmas.Bool.{cases_lt}
 use Rattle.std.proofs.lemmas.List.{get_or-map, length-map, get_or_past}
-use Rattle.lucy_solve.specs.System.{System, diff_at, IsSystem, Solves, value, IsEarliest}
+use Rattle.lucy_solve.specs.System.{DifferenceSystem, diff_at, IsSystem, Solves, value, IsEarliest}
 use Rattle.lucy_solve.specs.Search.{position_at, MeetsInequality, IsReached, IsPassed}
 use Rattle.lucy_solve.proofs.Lifts.{proper, shifted_is}
 
 -- the values, less that of the origin, are a solution
-solves_shifted : (s : System) (x : List ℕ) (c : ℕ) (f : ℕ → ℤ) → ((n : ℕ) → f n ≡ pos n -ℤ pos c) → length x ≡ s.count → IsSystem s → ((i : ℕ) → i < length s.list → MeetsInequality s.list x i) → get_or x 0 0 ≡ c → f 0 ≡ pos 0 ⊎ 0 < s.count → Solves s (map f x)
+solves_shifted : (s : DifferenceSystem) (x : List ℕ) (c : ℕ) (f : ℕ → ℤ) → ((n : ℕ) → f n ≡ pos n -ℤ pos c) → length x ≡ s.count → IsSystem s → ((i : ℕ) → i < length s.list → MeetsInequality s.list x i) → get_or x 0 0 ≡ c → f 0 ≡ pos 0 ⊎ 0 < s.count → Solves s (map f x)
 solves_shifted s x c f is size p holds zero_is some = record {
   size = length-map x f ∙ size;
   origin = elim (cases_lt 0 (length x)) [
@@ -27,7 +27,7 @@ solves_shifted s x c f is size p holds zero_is some = record {
       omega (arith, ints);
 }
 
-pub earliest : (s : System) (x parents : List ℕ) → IsReached s x parents → IsSystem s → ((i : ℕ) → i < length s.list → MeetsInequality s.list x i) → IsEarliest s (map pos x)
+pub earliest : (s : DifferenceSystem) (x parents : List ℕ) → IsReached s x parents → IsSystem s → ((i : ℕ) → i < length s.list → MeetsInequality s.list x i) → IsEarliest s (map pos x)
 earliest s x parents h p holds =
     let origin : get_or x 0 0 ≡ 0 = elim (cases_lt 0 s.count) [
       | inl l ↦ let y = solves_shifted s x (get_or x 0 0) (λ n. pos n -ℤ pos (get_or x 0 0)) (λ n. refl) h.value_count p holds refl (inr l) in
@@ -52,7 +52,7 @@ position_back : (len : ℕ) (backwards : Bool) (i : ℕ) → i < len → (positi
 position_back len true i l = (omega arith, omega arith)
 position_back len false i l = (l, refl)
 
-pub settled : (s : System) (backwards : Bool) (before x parents : List ℕ) → IsReached s x parents → IsSystem s → IsPassed s.list backwards before x (length s.list) false → IsEarliest s (map pos x)
+pub settled : (s : DifferenceSystem) (backwards : Bool) (before x parents : List ℕ) → IsReached s x parents → IsSystem s → IsPassed s.list backwards before x (length s.list) false → IsEarliest s (map pos x)
 settled s backwards before x parents h p q = earliest s x parents h p (λ i l.
     let a = position_back (length s.list) backwards i l in
     subst (λ (i : ℕ). MeetsInequality s.list x i) a.1 ((q.still refl).1 (position_at (length s.list) backwards i) a.0))

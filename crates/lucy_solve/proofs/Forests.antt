@@ -2,7 +2,7 @@
 use Rattle.std.proofs.Common.{inl, inr, ◌-◌, ◌≡◌, ℕ, ◌+◌, ◌<◌, ◌≤◌, ◌⊎◌, List, [], length, get_or, cond, ltb, sym, ap, ◌∙◌, subst, refl, arith}
 use Rattle.std.proofs.lemmas.Bool.{cases_lt}
 use Rattle.std.proofs.lemmas.Bool.Decides.{nat_tests}
-use Rattle.lucy_solve.specs.System.{System, diff_at}
+use Rattle.lucy_solve.specs.System.{DifferenceSystem, diff_at}
 use Rattle.lucy_solve.specs.Climb.{IsClimb, IsEnd}
 use Rattle.lucy_solve.specs.Parents.{IsForest, IsRoot, HasTargets}
 use Rattle.lucy_solve.proofs.Climbs.{climb_few}
@@ -17,7 +17,7 @@ depth_new : (depth : ℕ → ℕ) (marks : List ℕ) (before len v : ℕ) → be
 depth_new depth marks before len v h = grind (arith, nat_tests)
 
 -- no root is marked on the path
-root_low : (s : System) (parents marks path : List ℕ) (before start at : ℕ) → IsClimb s parents marks path before start at → (v : ℕ) → IsRoot s parents v → get_or marks v 0 ≤ before
+root_low : (s : DifferenceSystem) (parents marks path : List ℕ) (before start at : ℕ) → IsClimb s parents marks path before start at → (v : ℕ) → IsRoot s parents v → get_or marks v 0 ≤ before
 root_low s parents marks path before start at h v r = elim (cases_lt before (get_or marks v 0)) [
   | inl l ↦ let top = h.top v in
       let j = get_or marks v 0 - before - 1 in
@@ -28,7 +28,7 @@ root_low s parents marks path before start at h v r = elim (cases_lt before (get
   | inr l ↦ l
 ]
 
-up_path : (s : System) (parents marks path : List ℕ) (before start at : ℕ) (h : IsClimb s parents marks path before start at) → get_or marks at 0 ≤ before → (v : ℕ) → before < get_or marks v 0 →
+up_path : (s : DifferenceSystem) (parents marks path : List ℕ) (before start at : ℕ) (h : IsClimb s parents marks path before start at) → get_or marks at 0 ≤ before → (v : ℕ) → before < get_or marks v 0 →
     new_depth h.depth marks before (length path) (diff_at s.list (get_or parents v 0)).left < new_depth h.depth marks before (length path) v
 up_path s parents marks path before start at h at_low v l =
     let top = h.top v in
@@ -48,7 +48,7 @@ up_path s parents marks path before start at h at_low v l =
           omega arith
     ]
 
-closed_path : (s : System) (parents marks path : List ℕ) (before start at : ℕ) (h : IsClimb s parents marks path before start at) → IsEnd s parents marks before at → (v : ℕ) → before < get_or marks v 0 →
+closed_path : (s : DifferenceSystem) (parents marks path : List ℕ) (before start at : ℕ) (h : IsClimb s parents marks path before start at) → IsEnd s parents marks before at → (v : ℕ) → before < get_or marks v 0 →
     ((0 < get_or marks (diff_at s.list (get_or parents v 0)).left 0) × (get_or marks (diff_at s.list (get_or parents v 0)).left 0 ≤ before + length path)) ⊎ IsRoot s parents (diff_at s.list (get_or parents v 0)).left
 closed_path s parents marks path before start at h end v l =
     let top = h.top v in
@@ -67,7 +67,7 @@ closed_path s parents marks path before start at h end v l =
           ]
     ]
 
-pub climb_end : (s : System) (parents marks path : List ℕ) (before start at : ℕ) → IsClimb s parents marks path before start at → HasTargets s parents → start < s.count → IsEnd s parents marks before at →
+pub climb_end : (s : DifferenceSystem) (parents marks path : List ℕ) (before start at : ℕ) → IsClimb s parents marks path before start at → HasTargets s parents → start < s.count → IsEnd s parents marks before at →
     IsClimb s parents marks [] (before + length path) (start + 1) (start + 1)
 climb_end s parents marks path before start at h t k end =
     let at_low : get_or marks at 0 ≤ before = elim end [ inl w ↦ w.1 | inr w ↦ let a = w.0 in omega arith ] in
@@ -126,7 +126,7 @@ climb_end s parents marks path before start at h t k end =
       ];
     }
 
-pub climb_forest : (s : System) (parents marks : List ℕ) (before start at : ℕ) → IsClimb s parents marks [] before start at → HasTargets s parents → s.count ≤ start → IsForest s parents
+pub climb_forest : (s : DifferenceSystem) (parents marks : List ℕ) (before start at : ℕ) → IsClimb s parents marks [] before start at → HasTargets s parents → s.count ≤ start → IsForest s parents
 climb_forest s parents marks before start at h t l =
     let few = climb_few s parents marks [] before start at h t in
     record {
@@ -138,7 +138,7 @@ climb_forest s parents marks before start at h t l =
       ];
     }
 
-pub climb_next : (s : System) (parents marks path path' : List ℕ) (before start at n : ℕ) → IsClimb s parents marks path before start at → HasTargets s parents → start < s.count → (before < get_or marks at 0) ⊎ IsEnd s parents marks before at →
+pub climb_next : (s : DifferenceSystem) (parents marks path path' : List ℕ) (before start at n : ℕ) → IsClimb s parents marks path before start at → HasTargets s parents → start < s.count → (before < get_or marks at 0) ⊎ IsEnd s parents marks before at →
     get_or marks at 0 ≤ before → path' ≡ [] → n ≡ length path → IsClimb s parents marks path' (before + n) (start + 1) (start + 1) × (path' ≡ [])
 climb_next s parents marks path path' before start at n h t k end low e f =
     let end' : IsEnd s parents marks before at = elim end [ inl w ↦ absurd (omega arith) | inr w ↦ w ] in
@@ -146,5 +146,5 @@ climb_next s parents marks path path' before start at n h t k end low e f =
     let P : List ℕ → ℕ → Type 0 = λ path n. IsClimb s parents marks path (before + n) (start + 1) (start + 1) in
     (subst (P path') (sym f) (subst (λ (x : List ℕ). P x (length path)) (sym e) a), e)
 
-pub climb_over : (s : System) (parents marks path : List ℕ) (before start at : ℕ) → IsClimb s parents marks path before start at → path ≡ [] → HasTargets s parents → s.count ≤ start → IsForest s parents
+pub climb_over : (s : DifferenceSystem) (parents marks path : List ℕ) (before start at : ℕ) → IsClimb s parents marks path before start at → path ≡ [] → HasTargets s parents → s.count ≤ start → IsForest s parents
 climb_over s parents marks path before start at h e t l = climb_forest s parents marks before start at (subst (λ (p : List ℕ). IsClimb s parents marks p before start at) e h) t l

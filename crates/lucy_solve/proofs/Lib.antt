@@ -1,5 +1,5 @@
 mod Places
-mod Chains
+pub mod Chains
 mod Lifts
 mod Raises
 mod Passes

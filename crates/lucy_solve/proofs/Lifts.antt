@@ -3,7 +3,7 @@ use Rattle.std.proofs.Common.{neg_ℤ, inl, inr, ◌≡◌, ℕ, ◌+◌, ◌<�
 use Rattle.std.proofs.lemmas.Int.{ints}
 use Rattle.std.proofs.lemmas.Bool.{cases_eq}
 use Rattle.std.proofs.lemmas.List.{get_or-set_same, get_or-set_other, length-set, length-replicate}
-use Rattle.lucy_solve.specs.System.{System, diff_at, no_diff, IsProper, IsSystem, value, IsGrounded, most_constant}
+use Rattle.lucy_solve.specs.System.{DifferenceSystem, diff_at, no_diff, IsProper, IsSystem, value, IsGrounded, most_constant}
 use Rattle.lucy_solve.specs.Search.{shifted, IsLift, IsReached}
 use Rattle.lucy_solve.proofs.Places.{put, put_same, put_other, at_set, first_at}
 
@@ -11,10 +11,10 @@ pub shifted_is : (z : ℤ) → neg_ℤ (pos most_constant) ≤ℤ z → pos (shi
 shifted_is (pos n) h = omega (arith, ints)
 shifted_is (negsuc n) h = omega (arith, ints)
 
-pub proper : (s : System) → IsSystem s → (i : ℕ) → i < length s.list → IsProper s.count (diff_at s.list i)
+pub proper : (s : DifferenceSystem) → IsSystem s → (i : ℕ) → i < length s.list → IsProper s.count (diff_at s.list i)
 proper s h i l = h i no_diff l
 
-lifted_here : (s : System) (x : List ℕ) (i to : ℕ) (rank : ℕ → ℕ) (top : ℕ) → ((v : ℕ) → rank v < top) → (diff_at s.list i).right < length x →
+lifted_here : (s : DifferenceSystem) (x : List ℕ) (i to : ℕ) (rank : ℕ → ℕ) (top : ℕ) → ((v : ℕ) → rank v < top) → (diff_at s.list i).right < length x →
     get_or x (diff_at s.list i).right 0 < to → to + shifted (diff_at s.list i).most ≡ get_or x (diff_at s.list i).left 0 + most_constant →
     (v j : ℕ) → v ≡ (diff_at s.list i).right → j ≡ i → IsLift s.list (set x (diff_at s.list i).right to) (put rank (diff_at s.list i).right top) v j
 lifted_here s x i to rank top below in' more e v j f g =
@@ -30,7 +30,7 @@ lifted_here s x i to rank top below in' more e v j f g =
     ] in
     subst (λ (v : ℕ). P v j) (sym f) (subst (P r) (sym g) here)
 
-lifted_there : (s : System) (x : List ℕ) (r to : ℕ) (rank : ℕ → ℕ) (top : ℕ) → r < length x → get_or x r 0 < to →
+lifted_there : (s : DifferenceSystem) (x : List ℕ) (r to : ℕ) (rank : ℕ → ℕ) (top : ℕ) → r < length x → get_or x r 0 < to →
     (v j : ℕ) → (v ≡ r → ⊥) → IsLift s.list x rank v j → IsLift s.list (set x r to) (put rank r top) v j
 lifted_there s x r to rank top in' more v j n h =
     let a : get_or (set x r to) v 0 ≡ get_or x v 0 = get_or-set_other x r v to 0 n in
@@ -44,7 +44,7 @@ lifted_there s x r to rank top in' more v j n h =
     ]
 
 -- variable r of inequality i is lifted to `to`
-pub lift : (s : System) (x parents : List ℕ) (i to : ℕ) → IsReached s x parents → IsSystem s → i < length s.list →
+pub lift : (s : DifferenceSystem) (x parents : List ℕ) (i to : ℕ) → IsReached s x parents → IsSystem s → i < length s.list →
     get_or x (diff_at s.list i).right 0 < to → to + shifted (diff_at s.list i).most ≡ get_or x (diff_at s.list i).left 0 + most_constant →
     IsReached s (set x (diff_at s.list i).right to) (set parents (diff_at s.list i).right i)
 lift s x parents i to h p l more e =
@@ -83,7 +83,7 @@ lift s x parents i to h p l more e =
     }
 
 -- before the first pass
-pub reached_first : (s : System) (none : ℕ) → IsGrounded s → length s.list ≤ none → IsReached s (replicate s.count 0) (replicate s.count none)
+pub reached_first : (s : DifferenceSystem) (none : ℕ) → IsGrounded s → length s.list ≤ none → IsReached s (replicate s.count 0) (replicate s.count none)
 reached_first s none ready big = record {
   value_count = length-replicate s.count 0;
   parent_count = length-replicate s.count none;

@@ -5,14 +5,14 @@ use Rattle.std.proofs.lemmas.List.Sums.{sum_by-le}
 use Rattle.std.proofs.lemmas.List.Elements.{All-from_get_or}
 use borrow.Author.Count.{below_more}
 use Rattle.lucy_solve.specs.declared.diffs.Diff.{Diff}
-use Rattle.lucy_solve.specs.System.{System, diff_at, IsSystem, most_constant}
+use Rattle.lucy_solve.specs.System.{DifferenceSystem, diff_at, IsSystem, most_constant}
 use Rattle.lucy_solve.specs.Search.{position_at, MeetsInequality, IsReached, AreWithin, IsRaised, IsPassed}
 use Rattle.lucy_solve.specs.Parents.{IsForest}
 use Rattle.lucy_solve.proofs.Lifts.{proper}
 use Rattle.lucy_solve.proofs.Raises.{raised_within}
 
 -- along a forest the values stay small
-deep : (s : System) (x parents : List ℕ) (h : IsReached s x parents) (f : IsForest s parents) → IsSystem s → (n v : ℕ) → v < s.count → f.depth v ≤ n → get_or x v 0 ≤ most_constant * n
+deep : (s : DifferenceSystem) (x parents : List ℕ) (h : IsReached s x parents) (f : IsForest s parents) → IsSystem s → (n v : ℕ) → v < s.count → f.depth v ≤ n → get_or x v 0 ≤ most_constant * n
 deep s x parents h f p zero v k m = elim (cases_lt (get_or parents v 0) (length s.list)) [
   | inl l ↦ let a = f.up v k l in absurd (omega arith)
   | inr l ↦ let a = h.root v k l in omega arith
@@ -25,7 +25,7 @@ deep s x parents h f p (suc n) v k m = elim (cases_lt (get_or parents v 0) (leng
   | inr l ↦ let a = h.root v k l in omega arith
 ]
 
-pub within_forest : (s : System) (x parents : List ℕ) → IsReached s x parents → IsForest s parents → IsSystem s → AreWithin x (length s.list)
+pub within_forest : (s : DifferenceSystem) (x parents : List ℕ) → IsReached s x parents → IsForest s parents → IsSystem s → AreWithin x (length s.list)
 within_forest s x parents h f p v k = let a = h.value_count in deep s x parents h f p (length s.list) v (omega arith) (f.shallow v)
 
 -- one pass, step by step
@@ -67,7 +67,7 @@ passed_step list backwards before x x' n i moved false moved' h r e f g =
 pub sum_bounded : (xs : List ℕ) (n : ℕ) → AreWithin xs n → sum xs ≤ length xs * (most_constant * n)
 sum_bounded xs n h = sum_by-le (λ x. x) (most_constant * n) xs (All-from_get_or (λ x. x ≤ most_constant * n) xs 0 h)
 
-pub room_falls : (s : System) (x x' parents' : List ℕ) → IsReached s x' parents' → IsForest s parents' → IsSystem s → sum x < sum x' →
+pub room_falls : (s : DifferenceSystem) (x x' parents' : List ℕ) → IsReached s x' parents' → IsForest s parents' → IsSystem s → sum x < sum x' →
     s.count * (most_constant * length s.list) - sum x' < s.count * (most_constant * length s.list) - sum x
 room_falls s x x' parents' h f p l =
     let a = sum_bounded x' (length s.list) (within_forest s x' parents' h f p) in

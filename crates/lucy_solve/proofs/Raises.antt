@@ -5,12 +5,12 @@ use Rattle.std.proofs.lemmas.Int.{ints}
 use Rattle.std.proofs.lemmas.Bool.{cases_lt}
 use Rattle.std.proofs.lemmas.List.{length-set, get_or_past}
 use Rattle.lucy_solve.specs.declared.diffs.Diff.{Diff}
-use Rattle.lucy_solve.specs.System.{System, diff_at, IsProper, IsSystem, most_constant}
+use Rattle.lucy_solve.specs.System.{DifferenceSystem, diff_at, IsProper, IsSystem, most_constant}
 use Rattle.lucy_solve.specs.Search.{shifted, IsReached, AreWithin, IsRaised}
 use Rattle.lucy_solve.proofs.Places.{at_set, sum_set}
 use Rattle.lucy_solve.proofs.Lifts.{lift, proper}
 
-raised_here : (s : System) (x parents : List ℕ) (i to : ℕ) → IsSystem s → IsReached s x parents → i < length s.list →
+raised_here : (s : DifferenceSystem) (x parents : List ℕ) (i to : ℕ) → IsSystem s → IsReached s x parents → i < length s.list →
     get_or x (diff_at s.list i).right 0 < to → to + shifted (diff_at s.list i).most ≡ get_or x (diff_at s.list i).left 0 + most_constant → IsRaised s.list x (set x (diff_at s.list i).right to) i true
 raised_here s x parents i to p h l more f =
     let r = (diff_at s.list i).right in
@@ -28,7 +28,7 @@ raised_here s x parents i to p h l more f =
     }
 
 -- variable r of inequality i is lifted
-pub raised_step : (s : System) (list : List Diff) (x parents : List ℕ) (i to : ℕ) → list ≡ s.list → IsSystem s → IsReached s x parents → i < length s.list →
+pub raised_step : (s : DifferenceSystem) (list : List Diff) (x parents : List ℕ) (i to : ℕ) → list ≡ s.list → IsSystem s → IsReached s x parents → i < length s.list →
     get_or x (diff_at list i).right 0 < to → to + shifted (diff_at list i).most ≡ get_or x (diff_at list i).left 0 + most_constant →
     IsReached s (set x (diff_at list i).right to) (set parents (diff_at list i).right i) × IsRaised s.list x (set x (diff_at list i).right to) i true
 raised_step s list x parents i to e p h l more f =
@@ -51,7 +51,7 @@ raised_within list x x' i n moved r w =
     ] in
     r.within (n + 1) (λ v k. let a = w v k in omega arith) (omega arith)
 
-pub raise_most : (s : System) (list : List Diff) (i : ℕ) (n : ℕ) → list ≡ s.list → IsSystem s → i < length s.list → n ≡ shifted (to_z w64 (of_z w64 (diff_at list i).most)) → n ≡ shifted (diff_at list i).most
+pub raise_most : (s : DifferenceSystem) (list : List Diff) (i : ℕ) (n : ℕ) → list ≡ s.list → IsSystem s → i < length s.list → n ≡ shifted (to_z w64 (of_z w64 (diff_at list i).most)) → n ≡ shifted (diff_at list i).most
 raise_most s list i n e p l h =
     let a : IsProper s.count (diff_at list i) = subst (λ (x : List Diff). IsProper s.count (diff_at x i)) (sym e) (proper s p i l) in
     let b = a.low in

@@ -1,12 +1,12 @@
 -- The end of a path that meets a variable of its own: a circle of parents.
 use Rattle.std.proofs.Common.{◌-◌, ◌≡◌, ℕ, ◌+◌, ◌<◌, List, length, drop, reverse, get_or, sym, ap, ◌∙◌, subst, arith}
 use Rattle.std.proofs.lemmas.List.{get_or-reverse, get_or-drop, length-reverse, length-drop}
-use Rattle.lucy_solve.specs.System.{System, diff_at}
+use Rattle.lucy_solve.specs.System.{DifferenceSystem, diff_at}
 use Rattle.lucy_solve.specs.Climb.{IsClimb}
 use Rattle.lucy_solve.specs.Parents.{IsRound, HasTargets}
 use Rattle.lucy_solve.proofs.Climbs.{climb_few}
 
-pub climb_closed : (s : System) (parents marks path : List ℕ) (before start at : ℕ) (cycle : List ℕ) → IsClimb s parents marks path before start at → HasTargets s parents → before < get_or marks at 0 →
+pub climb_closed : (s : DifferenceSystem) (parents marks path : List ℕ) (before start at : ℕ) (cycle : List ℕ) → IsClimb s parents marks path before start at → HasTargets s parents → before < get_or marks at 0 →
     cycle ≡ reverse (drop (get_or marks at 0 - before - 1) path) → IsRound s parents cycle
 climb_closed s parents marks path before start at cycle h t l e =
     let first = get_or marks at 0 - before - 1 in

@@ -3,10 +3,10 @@ use Rattle.std.proofs.Common.{ℕ, zero, suc, ◌≡◌, ◌+◌, ◌<◌, ℤ, 
 use Rattle.std.proofs.lemmas.Int.{ints}
 use Rattle.std.proofs.lemmas.List.{get_or_past}
 use Rattle.lucy_solve.specs.declared.diffs.Diff.{Diff}
-use Rattle.lucy_solve.specs.System.{System, diff_at, value, Solves, IsEarliest, IsNegativeCycle}
+use Rattle.lucy_solve.specs.System.{DifferenceSystem, diff_at, value, Solves, IsEarliest, IsNegativeCycle}
 
 -- 0 <= x - 1, 0 <= y + 0, x <= y - 1
-two_steps : System
+two_steps : DifferenceSystem
 two_steps = record { count = 3; list = record { left = 0; right = 1; most = negsuc 0 } ∷ record { left = 0; right = 2; most = pos 0 } ∷ record { left = 1; right = 2; most = negsuc 0 } ∷ [] }
 
 values : List ℤ

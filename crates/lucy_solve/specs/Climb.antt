@@ -1,6 +1,6 @@
 -- The search for a circle of parents. Variables are marked 1, 2, .. as they are met, path by path.
 use Rattle.std.specs.Prelude.{◌≡◌, ℕ, ◌+◌, ◌-◌, ◌<◌, ◌≤◌, ◌⊎◌, List, length, slice_index, Bool, count_by, nat_lt}
-use Rattle.lucy_solve.specs.System.{System, diff_at}
+use Rattle.lucy_solve.specs.System.{DifferenceSystem, diff_at}
 use Rattle.lucy_solve.specs.Parents.{IsRoot}
 
 -- a mark above 0
@@ -8,7 +8,7 @@ abbrev pub is_marked : ℕ → Bool
 is_marked mark = nat_lt 0 mark
 
 -- marks up to `before` are of earlier paths, whose variables are a forest; those above it are of the path of parents from `start`, which has come to `at`
-pub record IsClimb (s : System) (parents marks path : List ℕ) (before start at : ℕ) : Type 0 where
+pub record IsClimb (s : DifferenceSystem) (parents marks path : List ℕ) (before start at : ℕ) : Type 0 where
   pub size : length marks ≡ s.count
   pub begun : start < s.count → slice_index marks start ≡ 0 → at ≡ start
   pub inside : start < s.count → at < s.count
@@ -31,5 +31,5 @@ pub record IsClimb (s : System) (parents marks path : List ℕ) (before start at
       ((0 < slice_index marks (diff_at s.list (slice_index parents v)).left) × (slice_index marks (diff_at s.list (slice_index parents v)).left ≤ before)) ⊎ IsRoot s parents (diff_at s.list (slice_index parents v)).left
 
 -- the path ends at a variable that earlier paths met, or at a root that they did not
-abbrev pub IsEnd : System → List ℕ → List ℕ → ℕ → ℕ → Type 0
+abbrev pub IsEnd : DifferenceSystem → List ℕ → List ℕ → ℕ → ℕ → Type 0
 IsEnd s parents marks before at = ((0 < slice_index marks at) × (slice_index marks at ≤ before)) ⊎ ((slice_index marks at ≡ 0) × IsRoot s parents at)

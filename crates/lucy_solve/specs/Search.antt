@@ -1,7 +1,7 @@
 -- The search for the earliest solution: values that no solution goes below, and the parents by which they were lifted.
 use Rattle.std.specs.Prelude.{◌≡◌, ℕ, ◌+◌, ◌-◌, ◌*◌, ◌^◌, ◌<◌, ◌≤◌, ℤ, pos, negsuc, ◌≤ℤ◌, List, length, slice_index, Bool, true, false, cond, sum}
 use Rattle.lucy_solve.specs.declared.diffs.Diff.{Diff}
-use Rattle.lucy_solve.specs.System.{most_constant, System, diff_at, Solves, value}
+use Rattle.lucy_solve.specs.System.{most_constant, DifferenceSystem, diff_at, Solves, value}
 
 -- a constant plus the greatest one, which gives no number below 0
 abbrev pub shifted : ℤ → ℕ
@@ -19,7 +19,7 @@ pub record IsLift (list : List Diff) (values : List ℕ) (rank : ℕ → ℕ) (v
   pub strict : slice_index values v + shifted (diff_at list i).most ≡ slice_index values (diff_at list i).left + most_constant → rank (diff_at list i).left < rank v
 
 -- no solution goes below the values; a variable without a parent has value 0, and the others were lifted by theirs
-pub record IsReached (s : System) (values parents : List ℕ) : Type 0 where
+pub record IsReached (s : DifferenceSystem) (values parents : List ℕ) : Type 0 where
   pub value_count : length values ≡ s.count
   pub parent_count : length parents ≡ s.count
   pub lower : (others : List ℤ) → Solves s others → (v : ℕ) → v < s.count → pos (slice_index values v) ≤ℤ value others v
@@ -59,7 +59,7 @@ abbrev pub most_swept : ℕ
 most_swept = 2 ^ 21 + 1
 
 -- inequalities were looked at whose left variables stood at 2^61 or below
-pub record IsSwept (s : System) (before values parents : List ℕ) : Type 0 where
+pub record IsSwept (s : DifferenceSystem) (before values parents : List ℕ) : Type 0 where
   pub reached : IsReached s values parents
   pub within : AreWithin values most_swept
   pub grown : sum before ≤ sum values

@@ -14,7 +14,7 @@ abbrev pub most_constant : ℕ
 most_constant = 2 ^ 40
 
 -- how many variables there are, and the inequalities between them
-pub record System : Type 0 where
+pub record DifferenceSystem : Type 0 where
   pub count : ℕ
   pub list : List Diff
 
@@ -34,7 +34,7 @@ pub record IsProper (count : ℕ) (diff : Diff) : Type 0 where
   pub high : diff.most ≤ℤ pos most_constant
 
 -- each inequality is proper
-abbrev pub IsSystem : System → Type 0
+abbrev pub IsSystem : DifferenceSystem → Type 0
 IsSystem s = All (IsProper s.count) s.list
 
 -- the value of a variable
@@ -42,17 +42,17 @@ abbrev pub value : List ℤ → ℕ → ℤ
 value values v = slice_index_or values v (pos 0)
 
 -- one value for each variable, 0 for the origin, which meet each inequality
-pub record Solves (s : System) (values : List ℤ) : Type 0 where
+pub record Solves (s : DifferenceSystem) (values : List ℤ) : Type 0 where
   pub size : length values ≡ s.count
   pub origin : value values 0 ≡ pos 0
   pub each : (i : ℕ) → i < length s.list → value values (diff_at s.list i).left ≤ℤ (value values (diff_at s.list i).right +ℤ (diff_at s.list i).most)
 
 -- no values solve the system
-abbrev pub HasNoSolution : System → Type 0
+abbrev pub HasNoSolution : DifferenceSystem → Type 0
 HasNoSolution s = (values : List ℤ) → Solves s values → ⊥
 
 -- the solution that no other goes below at any variable
-pub record IsEarliest (s : System) (values : List ℤ) : Type 0 where
+pub record IsEarliest (s : DifferenceSystem) (values : List ℤ) : Type 0 where
   pub solves : Solves s values
   pub least : (others : List ℤ) → Solves s others → (v : ℕ) → value values v ≤ℤ value others v
 
@@ -76,6 +76,6 @@ pub record IsBase (v : ℕ) (diff : Diff) : Type 0 where
   pub most : diff.most ≤ℤ pos 0
 
 -- no more inequalities than the limit, a base of each variable but the origin among them
-pub record IsGrounded (s : System) : Type 0 where
+pub record IsGrounded (s : DifferenceSystem) : Type 0 where
   pub few : length s.list ≤ most_inequalities
   pub based : (v : ℕ) → 0 < v → v < s.count → (i : ℕ) × (i < length s.list) × IsBase v (diff_at s.list i)

@@ -3,7 +3,8 @@ ghost use Rattle.lucy_solve.specs.System.{most_inequalities};
 ghost use Rattle.lucy_solve.specs.Climb.{IsClimb, IsEnd};
 ghost use Rattle.lucy_solve.specs.Parents.{HasTargets};
 
-use crate::{Diffs, OutOfMemory};
+use crate::Diffs;
+use std::alloc::AllocError;
 
 // From `start` up the parents, which the path collects, to a variable that is marked or has no parent. A variable on the
 // path is marked with its place on it, from 1, plus the `before` variables of earlier paths.
@@ -14,7 +15,7 @@ pub(crate) fn climb(
     path: &mut Vec<u32>,
     before: u32,
     start: u32,
-) -> Result<u32, OutOfMemory>
+) -> Result<u32, AllocError>
     requires ready { IsClimb diffs.now parents.now marks.old path.old.items before start start }
     requires targets { HasTargets diffs.now parents.now }
     requires few { length diffs.now.list ≤ most_inequalities }

@@ -2,12 +2,12 @@ ghost use Rattle.std.specs.Prelude.{◌≡◌, ◌≤◌, length, drop, reverse,
 ghost use Rattle.lucy_solve.specs.System.{most_inequalities};
 ghost use Rattle.lucy_solve.specs.Parents.{IsForest, IsRound, HasTargets};
 
+use crate::Diffs;
 use crate::climb::climb;
-use crate::{Diffs, OutOfMemory};
-use std::alloc::Global;
+use std::alloc::{AllocError, Global};
 
 // The positions from `first` on, last first: a path is climbed against the direction of its inequalities.
-fn reversed_from(alloc: Global, path: &[u32], first: usize) -> Result<Vec<u32>, OutOfMemory>
+fn reversed_from(alloc: Global, path: &[u32], first: usize) -> Result<Vec<u32>, AllocError>
     requires { first ≤ length path.now }
     ensures { IfOk result (λ v. v.items ≡ reverse (drop first path.now)) }
 {
@@ -20,7 +20,7 @@ pub(crate) fn find_cycle(
     diffs: &Diffs,
     parents: &[u32],
     marks: &mut [u32],
-) -> Result<Option<Vec<u32>>, OutOfMemory>
+) -> Result<Option<Vec<u32>>, AllocError>
     requires targets { HasTargets diffs.now parents.now }
     requires few { length diffs.now.list ≤ most_inequalities }
     requires parents { length parents.now ≡ diffs.now.count }

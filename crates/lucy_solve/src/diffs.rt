@@ -1,8 +1,7 @@
 ghost use Rattle.std.specs.Prelude.{◌≡◌, ◌++◌, ◌∷◌, [], IfOk, OnErr};
 ghost use Rattle.lucy_solve.specs.System.{IsProper, IsSystem};
 
-use crate::OutOfMemory;
-use std::alloc::Global;
+use std::alloc::{AllocError, Global};
 use std::marker::Model;
 
 /// The inequality `left <= right + most` between two variables, which are counted from 0.
@@ -23,9 +22,9 @@ pub struct Diffs {
 }
 
 impl Model for Diffs {
-    ghost use Rattle.lucy_solve.specs.System.{System, IsSystem};
+    ghost use Rattle.lucy_solve.specs.System.{DifferenceSystem, IsSystem};
 
-    ghost Value = { System };
+    ghost Value = { DifferenceSystem };
 
     ghost view = { λ d. record { count = d.count; list = d.list.items } };
 
@@ -44,7 +43,7 @@ impl Diffs {
     }
 
     /// One more inequality, at the end.
-    pub fn push(&mut self, alloc: Global, diff: Diff) -> Result<(), OutOfMemory>
+    pub fn push(&mut self, alloc: Global, diff: Diff) -> Result<(), AllocError>
         requires { IsProper self.old.count diff }
         ensures pushed { IfOk result (λ _. self.new ≡ record { count = self.old.count; list = self.old.list ++ diff ∷ [] }) }
         ensures refused { OnErr result (self.new ≡ self.old) }

@@ -8,7 +8,6 @@ mod climb;
 mod confirm;
 mod cycle;
 mod diffs;
-mod error;
 mod flow;
 mod lift;
 mod moved;
@@ -19,5 +18,5 @@ mod sweep;
 
 pub use confirm::confirm_cycle;
 pub use diffs::{Diff, Diffs};
-pub use error::OutOfMemory;
 pub use solver::{Outcome, solve};
+pub use std::alloc::AllocError as OutOfMemory;

@@ -1,6 +1,5 @@
 // The variables that moved since their last visit. Nothing is claimed of it.
-use crate::OutOfMemory;
-use std::alloc::Global;
+use std::alloc::{AllocError, Global};
 
 #[derive(Drop)]
 pub(crate) struct Moved {
@@ -11,7 +10,7 @@ pub(crate) struct Moved {
 
 impl Moved {
     // All of so many variables.
-    pub(crate) fn all(alloc: Global, count: usize) -> Result<Moved, OutOfMemory> {
+    pub(crate) fn all(alloc: Global, count: usize) -> Result<Moved, AllocError> {
         let flags = vec![in alloc; true; count]?;
         let list = (0..count).collect(alloc)?;
         Ok(Moved { flags, list })
@@ -25,7 +24,7 @@ impl Moved {
         variable < self.flags.len() && self.flags[variable]
     }
 
-    pub(crate) fn push(&mut self, variable: usize) -> Result<(), OutOfMemory> {
+    pub(crate) fn push(&mut self, variable: usize) -> Result<(), AllocError> {
         if variable < self.flags.len() && !self.flags[variable] {
             self.flags[variable] = true;
             self.list.push(variable)?;

@@ -4,12 +4,12 @@ ghost use Rattle.lucy_solve.specs.System.{IsSystem, IsGrounded, IsEarliest, HasN
 ghost use Rattle.lucy_solve.specs.Outcomes.{IsOutcome, IsCycle, IsRefutedBy};
 ghost use Rattle.lucy_solve.specs.Search.{IsReached, AreWithin, most_swept};
 
+use crate::Diffs;
 use crate::cycle::find_cycle;
 use crate::flow::Flow;
 use crate::pass::pass;
 use crate::sweep::sweep;
-use crate::{Diffs, OutOfMemory};
-use std::alloc::Global;
+use std::alloc::{AllocError, Global};
 
 /// What a system of inequalities comes to.
 #[derive(Drop)]
@@ -34,7 +34,7 @@ fn settle(
     diffs: &Diffs,
     values: &mut [u64],
     parents: &mut [u32],
-) -> Result<Option<Vec<u32>>, OutOfMemory>
+) -> Result<Option<Vec<u32>>, AllocError>
     requires reached { IsReached diffs.now values.old parents.old }
     requires within { AreWithin values.old (length diffs.now.list) }
     requires proper { IsSystem diffs.now }
@@ -60,7 +60,7 @@ fn settle(
     Ok(None)
 }
 
-fn signed(alloc: Global, values: &[u64]) -> Result<Vec<i64>, OutOfMemory>
+fn signed(alloc: Global, values: &[u64]) -> Result<Vec<i64>, AllocError>
     requires { All (λ x. x < 2 ^ 63) values.now }
     ensures { IfOk result (λ v. v.items ≡ map pos values.now) }
 {
@@ -73,7 +73,7 @@ fn signed(alloc: Global, values: &[u64]) -> Result<Vec<i64>, OutOfMemory>
 
 /// The earliest solution: each variable has the least value that it has in any. Where there is no solution, a cycle of
 /// inequalities that shows it, which `confirm_cycle` confirms. Want of memory says nothing of the inequalities.
-pub fn solve(alloc: Global, diffs: &Diffs) -> Result<Outcome, OutOfMemory>
+pub fn solve(alloc: Global, diffs: &Diffs) -> Result<Outcome, AllocError>
     requires { IsGrounded diffs.now }
     ensures is { IfOk result (IsOutcome diffs.now) }
     ensures exact { IfOk result (λ outcome. IsCycle outcome ↔ HasNoSolution diffs.now) }

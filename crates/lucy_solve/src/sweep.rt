@@ -3,12 +3,12 @@ ghost use Rattle.std.specs.Prelude.{◌≤◌, length, IfOk};
 ghost use Rattle.lucy_solve.specs.System.{most_inequalities};
 ghost use Rattle.lucy_solve.specs.Search.{IsReached, AreWithin, most_swept, IsSwept};
 
+use crate::Diffs;
 use crate::flow::Flow;
 use crate::lift::lift_from_low;
 use crate::moved::Moved;
 use crate::order::Walk;
-use crate::{Diffs, OutOfMemory};
-use std::alloc::Global;
+use std::alloc::{AllocError, Global};
 
 // After so many visits for each variable a sweep ends, so that a circle of parents is looked for.
 const MOST_VISITS: usize = 2;
@@ -20,7 +20,7 @@ fn visit(
     parents: &mut [u32],
     positions: &[usize],
     moved: &mut Moved,
-) -> Result<(), OutOfMemory>
+) -> Result<(), AllocError>
     requires reached { IsReached diffs.now values.old parents.old }
     requires within { AreWithin values.old most_swept }
     requires few { length diffs.now.list ≤ most_inequalities }
@@ -42,7 +42,7 @@ fn round(
     flow: &Flow,
     walk: &mut Walk,
     moved: &mut Moved,
-) -> Result<(), OutOfMemory>
+) -> Result<(), AllocError>
     requires reached { IsReached diffs.now values.old parents.old }
     requires within { AreWithin values.old most_swept }
     requires few { length diffs.now.list ≤ most_inequalities }
@@ -66,7 +66,7 @@ pub(crate) fn sweep(
     values: &mut [u64],
     parents: &mut [u32],
     flow: &Flow,
-) -> Result<(), OutOfMemory>
+) -> Result<(), AllocError>
     requires reached { IsReached diffs.now values.old parents.old }
     requires within { AreWithin values.old most_swept }
     requires few { length diffs.now.list ≤ most_inequalities }

@@ -6,12 +6,13 @@ use Rattle.std.proofs.lemmas.List.{take_all, length_push, get_or_push}
 use Rattle.lucy_stream.specs.Items.{item_at}
 use Rattle.lucy_stream.specs.Fronts.{IsFront}
 use Rattle.lucy_stream.proofs.FrontLaws.{IsFront-length}
-use Rattle.lucy_stream.specs.Systems.{RingOp, Takes, Gives, op_at, IsWired, is_give, is_take, gives_before, takes_before, given, taken}
+use Rattle.lucy_stream.specs.Systems.{RingOp, Takes, Gives, op_at, IsWired, is_give, gives_before, takes_before, given, taken}
 use Rattle.lucy_stream.specs.Runs.{step}
 use Rattle.lucy_stream.specs.States.{Machine, IsLocal, State, IsState}
 use Rattle.lucy_stream.specs.Actors.{StandsAs, moved, IsSameAt}
-use Rattle.lucy_stream.proofs.CountLaws.{count_take-le, count_take-lt, eqb-same, step-same, step-other, given-is, taken-is, gives_next, takes_next}
+use Rattle.lucy_stream.proofs.CountLaws.{count_take-lt, eqb-same, step-same, step-other, given-is, taken-is, gives_next, takes_next}
 use Rattle.lucy_stream.proofs.EventLaws.{gave_after-give, gave_after-other, took_after-take, took_after-other, gave_after-item, took_after-take_front}
+use Rattle.lucy_stream.proofs.StateLaws.{before_le}
 
 pub all_stand : (m : Machine) (s : State) → ((a : ℕ) → StandsAs m a s) → ((r : ℕ) → IsFront (s.took r) (s.gave r)) → ((r : ℕ) → length (s.gave r) ≤ length (s.took r) + m.sys.size r + 1) → IsState m s
 all_stand m s stands fronts most = record {
@@ -64,9 +65,6 @@ took_length m s a r item wired l h =
       | inl t ↦ ap length (took_after-take op r (item ∷ []) (s.took r) t.0) ∙ length_push (s.took r) item ∙ omega (arith, t.1)
       | inr t ↦ ap length (took_after-other op r (item ∷ []) (s.took r) t.0) ∙ omega (arith, t.1)
     ]
-
-before_le : (m : Machine) (s : State) (b n q : ℕ) → m.sys.to q ≡ b → n ≤ s.done b → length (s.took q) ≡ taken m.sys s.done q → takes_before m.sys b n q ≤ length (s.took q)
-before_le m s b n q t l h = omega (arith, taken-is m.sys s.done b (s.done b) q t refl, count_take-le (is_take q) (m.sys.ops b) n (s.done b) l)
 
 same_value : (m : Machine) (s : State) (a b n : ℕ) (item : ℤ) → IsLocal m → ((r : ℕ) → m.sys.to r ≡ b → length (s.took r) ≡ taken m.sys s.done r) → n ≤ s.done b →
     m.value b n (λ q. take (takes_before m.sys b n q) (s.took q)) ≡ m.value b n (λ q. take (takes_before m.sys b n q) ((moved m s a item).took q))

@@ -1,6 +1,6 @@
 -- The state of given counts.
-use Rattle.std.proofs.Common.{ℕ, ◌≡◌, List, [], ◌∷◌, ◌++◌, length, sym, refl, ◌∙◌, subst, arith}
-use Rattle.std.specs.Prelude.{ℤ}
+use Rattle.std.proofs.Common.{ℕ, ◌≡◌, List, [], ◌++◌, sym, ◌∙◌, subst, arith}
+use Rattle.std.proofs.lemmas.List.{nil_from_length}
 use Rattle.lucy_stream.specs.Systems.{System, IsWired}
 use Rattle.lucy_stream.specs.Runs.{none_done, IsRun, after, Leads, IsWhole, IsWithin, between}
 use Rattle.lucy_stream.specs.States.{Machine, IsLocal, State, start, events, IsSame, IsState}
@@ -46,10 +46,6 @@ counted_later m order d e picks wired local whole w run h =
     λ b. high.ends b ∙ sym (h b) ∙ sym (after-same (after none_done xs) d picks low.ends b) ∙ sym (after_joined none_done xs picks b) in
     subst (λ (t : State). IsSame (state_at m order e) t) (events_joined m start xs picks) (counts_decide m ys (xs ++ picks) wired local high.run both counts)
 
-no_items : (xs : List ℤ) → length xs ≡ 0 → xs ≡ []
-no_items [] e = refl
-no_items (x ∷ xs) e = absurd (omega arith)
-
 pub none_within : (sys : System) (d : ℕ → ℕ) → ((b : ℕ) → d b ≡ 0) → IsWithin sys d
 none_within sys d z = record {
   listed = λ a. omega (arith, z a);
@@ -65,6 +61,6 @@ counted_none m order d wired local whole z =
     let zero_there : (b : ℕ) → s.done b ≡ 0 = λ b. counted_done m order d b wired whole w ∙ z b in
     record {
       done = zero_there;
-      gave = λ r. no_items (s.gave r) (is.gave_count r ∙ given-none m.sys s.done r (zero_there (m.sys.from r)));
-      took = λ r. no_items (s.took r) (is.took_count r ∙ taken-none m.sys s.done r (zero_there (m.sys.to r)));
+      gave = λ r. nil_from_length (s.gave r) (is.gave_count r ∙ given-none m.sys s.done r (zero_there (m.sys.from r)));
+      took = λ r. nil_from_length (s.took r) (is.took_count r ∙ taken-none m.sys s.done r (zero_there (m.sys.to r)));
     }

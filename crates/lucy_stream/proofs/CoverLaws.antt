@@ -18,7 +18,7 @@ use Rattle.lucy_stream.proofs.IterateLaws.{iterate-front, iterate-at}
 use Rattle.lucy_stream.proofs.FiringLaws.{fire_value-item}
 use Rattle.lucy_stream.specs.Systems.{RingOp, Takes, Gives, is_give, is_take}
 use Rattle.lucy_stream.specs.Operations.{firing_ops}
-use Rattle.lucy_stream.specs.Plans.{Task, Plan, link_at, task_ops, task_value, machine, times, IsOperand, IsPluggedAt, IsPlugged, HasInput, IsFed, place_of, places_of}
+use Rattle.lucy_stream.specs.Plans.{Task, Plan, task_ops, task_value, machine, times, IsOperand, IsPluggedAt, IsPlugged, HasInput, IsFed, place_of, places_of}
 use Rattle.lucy_stream.proofs.CountLaws.{count_take-lt, eqb-same}
 use Rattle.lucy_stream.proofs.GiveCounts.{gives_in, gives_in_firing, gives_in_ops, does_give}
 use Rattle.lucy_stream.proofs.TakeCounts.{takes_in_ops, took_here}
@@ -86,7 +86,7 @@ gives_at task k r most l op =
 -- what a give gives is the next item of the list that its form makes of what was taken
 gives_item : (kinds : List HostKind) (inputs : List (List ℤ)) (plan : Plan) (a n k r : ℕ) (took : ℕ → List ℤ) (task : Task) → IsPluggedAt plan a task → HasInput inputs task.form task.quota →
     count_by (is_give r) (take k (task_ops (Some task))) ≤ n → k < length (task_ops (Some task)) → get_or (task_ops (Some task)) k (Takes 0) ≡ Gives r →
-    ((q : ℕ) → (link_at plan q).to ≡ a → length (took q) ≡ count_by (is_take q) (take k (task_ops (Some task)))) →
+    ((q : ℕ) → plan.to q ≡ a → length (took q) ≡ count_by (is_take q) (take k (task_ops (Some task)))) →
     HasItem (form_list kinds inputs n task.form (map took task.takes)) (count_by (is_give r) (take k (task_ops (Some task)))) (task_value kinds inputs (Some task) k took)
 gives_item kinds inputs plan a n k r took task is fed le l op len =
     let form : Form = task.form in
@@ -100,7 +100,7 @@ gives_item kinds inputs plan a n k r took task is fed le l op len =
     let q : ℕ = get_or ts j 0 in
     let there : j < length ts = omega (arith, is.arity) in
     let operand : IsOperand ts j q = record { there = there; is = refl; once = once_at ts j q there refl (is.takes_once q) } in
-    let mine : (link_at plan q).to ≡ a = All-get_or (λ s. (link_at plan s).to ≡ a) ts j 0 there is.takes in
+    let mine : plan.to q ≡ a = All-get_or (λ s. plan.to s ≡ a) ts j 0 there is.takes in
     let size : length (list_at (map took ts) j) ≡ length (took q) = ap length (operand_of took ts j there) in
     omega (arith, len q mine, at.before (is_take q), takes_in_ops form ts task.gives fired j q is.arity operand, took_here form ts task.gives fired i j q r is.arity operand at.within gives.here) in
     let upto : gave_in form fired ≤ n = omega (arith, gives.before) in
@@ -120,20 +120,20 @@ place_at plan (suc a) (t ∷ tasks) task e = place_at plan a tasks task e
 
 covers_at : (kinds : List HostKind) (inputs : List (List ℤ)) (plan : Plan) (a n k r : ℕ) (took : ℕ → List ℤ) → IsPlugged plan → IsFed inputs plan → (task : Option Task) → slice_get plan.tasks a ≡ task →
     count_by (is_give r) (take k (task_ops task)) ≤ n → k < length (task_ops task) → get_or (task_ops task) k (Takes 0) ≡ Gives r →
-    ((q : ℕ) → (link_at plan q).to ≡ a → length (took q) ≡ count_by (is_take q) (take k (task_ops task))) →
-    ((q : ℕ) → (link_at plan q).to ≡ a → IsFront (took q) (list_at (iterate kinds inputs (places_of plan) n) (link_at plan q).from)) →
+    ((q : ℕ) → plan.to q ≡ a → length (took q) ≡ count_by (is_take q) (take k (task_ops task))) →
+    ((q : ℕ) → plan.to q ≡ a → IsFront (took q) (list_at (iterate kinds inputs (places_of plan) n) (plan.from q))) →
     HasItem (list_at (iterate kinds inputs (places_of plan) (suc n)) a) (count_by (is_give r) (take k (task_ops task))) (task_value kinds inputs task k took)
 covers_at kinds inputs plan a n k r took plugged fed None e le l op len fronts = absurd (omega arith)
 covers_at kinds inputs plan a n k r took plugged fed (Some task) e le l op len fronts =
     let is : IsPluggedAt plan a task = plugged a task e in
     let before : List (List ℤ) = iterate kinds inputs (places_of plan) n in
-    let from : ℕ → ℕ = λ (q : ℕ). (link_at plan q).from in
+    let from : ℕ → ℕ = λ (q : ℕ). plan.from q in
     let mine : List ℤ = form_list kinds inputs n task.form (map took task.takes) in
     let theirs : List ℤ = form_list kinds inputs n task.form (lists_of before (map from task.takes)) in
     let j : ℕ = count_by (is_give r) (take k (task_ops (Some task))) in
     let item : HasItem mine j (task_value kinds inputs (Some task) k took) = gives_item kinds inputs plan a n k r took task is (fed a task e) le l op len in
     let parts : AreFronts (map took task.takes) (map (λ (q : ℕ). list_at before (from q)) task.takes) =
-    fronts_of (λ q. (link_at plan q).to ≡ a) took (λ (q : ℕ). list_at before (from q)) fronts task.takes is.takes in
+    fronts_of (λ q. plan.to q ≡ a) took (λ (q : ℕ). list_at before (from q)) fronts task.takes is.takes in
     let joined : AreFronts (map took task.takes) (lists_of before (map from task.takes)) = subst (AreFronts (map took task.takes)) (sym (map_map (list_at before) from task.takes)) parts in
     let front : IsFront mine theirs = form_list-front kinds inputs n n task.form (map took task.takes) (lists_of before (map from task.takes)) (omega arith) joined in
     let here : list_at (iterate kinds inputs (places_of plan) (suc n)) a ≡ theirs = iterate-at kinds inputs (places_of plan) n a (place_of plan task) (place_at plan a plan.tasks task e) in

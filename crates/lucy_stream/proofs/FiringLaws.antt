@@ -58,7 +58,7 @@ items_past-item item value n (suc k) (suc size) l h =
     subst (λ (o : Option ℤ). HasItem (item_then o (items_past item (n + 1) size)) (suc k) (value (n + suc k + 1))) (sym first) (omega (arith, found.0), same ∙ found.1)
 
 -- counts rise by at most one an instant
-ones_to-most : (word : Bits) (n k : ℕ) → ones_to word (n + k) ≤ ones_to word n + k
+pub ones_to-most : (word : Bits) (n k : ℕ) → ones_to word (n + k) ≤ ones_to word n + k
 ones_to-most word n zero = (let e : ones_to word (n + 0) ≡ ones_to word n = ap (ones_to word) (omega arith) in omega arith)
 ones_to-most word n (suc k) =
     let e : ones_to word (n + suc k) ≡ ones_to word (n + k + 1) = ap (ones_to word) (omega arith) in

@@ -9,7 +9,8 @@ use Rattle.lucy_stream.specs.Runs.{IsPossible}
 use Rattle.lucy_stream.specs.States.{Machine, State, held, event, IsState}
 use Rattle.lucy_stream.proofs.EventLaws.{gave_after-give, gave_after-other, took_after-take, took_after-other, next_length}
 
-takes_not_gives : (op : RingOp) (r q : ℕ) → op ≡ Takes r → op ≡ Gives q → ⊥
+-- what takes does not give
+pub takes_not_gives : (op : RingOp) (r q : ℕ) → op ≡ Takes r → op ≡ Gives q → ⊥
 takes_not_gives (Takes x) r q e f = cc
 takes_not_gives (Gives x) r q e f = cc
 

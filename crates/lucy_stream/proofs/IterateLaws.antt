@@ -66,7 +66,8 @@ iterate-inputs kinds inputs more places (suc n) h =
     (form_list-front kinds inputs n n place.form (lists_of fewer place.reads) (lists_of longer place.reads) (omega arith) (lists_of-fronts fewer longer place.reads (iterate-inputs kinds inputs more places n h)))
     (form_list-inputs kinds inputs more n place.form (lists_of longer place.reads) h))
 
-list_at_map : (f : Place → List ℤ) (places : List Place) (i : ℕ) (place : Place) → slice_get places i ≡ Some place → list_at (map f places) i ≡ f place
+-- the list of a place, of lists that are made of places
+pub list_at_map : (f : Place → List ℤ) (places : List Place) (i : ℕ) (place : Place) → slice_get places i ≡ Some place → list_at (map f places) i ≡ f place
 list_at_map f [] i place e = cc
 list_at_map f (p ∷ places) zero place e = (let same : p ≡ place = cc in ap f same)
 list_at_map f (p ∷ places) (suc i) place e = list_at_map f places i place e

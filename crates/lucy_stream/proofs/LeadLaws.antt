@@ -7,7 +7,7 @@ use Rattle.lucy_word.specs.Bits.{bit_at, one_if}
 use Rattle.lucy_stream.specs.Forms.{Form, Kept, Merged, Delayed}
 use Rattle.lucy_stream.specs.Systems.{RingOp, Takes, Gives, is_give, gives_before}
 use Rattle.lucy_stream.specs.Operations.{firing_ops}
-use Rattle.lucy_stream.specs.Plans.{Task, Plan, link_at, task_ops, system, times, IsPluggedAt, IsPlugged}
+use Rattle.lucy_stream.specs.Plans.{Task, Plan, task_ops, system, times, IsPluggedAt, IsPlugged}
 use Rattle.lucy_stream.proofs.CountLaws.{eqb-same}
 use Rattle.lucy_stream.proofs.GiveCounts.{gives_in_ops, does_give}
 use Rattle.lucy_stream.proofs.CoverLaws.{once_at, GivesAt, gives_at}
@@ -24,13 +24,13 @@ lead_in (Some task) r = first_of task.gives r
 
 -- the first ring of a ring's giver
 abbrev pub lead : Plan → ℕ → ℕ
-lead plan r = lead_in (slice_get plan.tasks (link_at plan r).from) r
+lead plan r = lead_in (slice_get plan.tasks (plan.from r)) r
 
-first_own : (plan : Plan) (r a : ℕ) → (link_at plan r).from ≡ a → (gives : List ℕ) → All (λ q. (link_at plan q).from ≡ a) gives → (link_at plan (first_of gives r)).from ≡ a
+first_own : (plan : Plan) (r a : ℕ) → plan.from r ≡ a → (gives : List ℕ) → All (λ q. plan.from q ≡ a) gives → plan.from (first_of gives r) ≡ a
 first_own plan r a e [] all = e
-first_own plan r a e (g ∷ gives) all = All-head (λ q. (link_at plan q).from ≡ a) g gives all
+first_own plan r a e (g ∷ gives) all = All-head (λ q. plan.from q ≡ a) g gives all
 
-lead_same : (plan : Plan) (r a : ℕ) → IsPlugged plan → (link_at plan r).from ≡ a → (task : Option Task) → slice_get plan.tasks a ≡ task → (link_at plan (lead_in task r)).from ≡ a
+lead_same : (plan : Plan) (r a : ℕ) → IsPlugged plan → plan.from r ≡ a → (task : Option Task) → slice_get plan.tasks a ≡ task → plan.from (lead_in task r) ≡ a
 lead_same plan r a is e None o = e
 lead_same plan r a is e (Some task) o = first_own plan r a e task.gives (is a task o).gives
 
@@ -90,9 +90,9 @@ lead_at plan a k r is (Some task) e l op n = lead_task plan a k r task task.give
 
 pub IsLead-plan : (plan : Plan) → IsPlugged plan → IsLead (system plan) (lead plan)
 IsLead-plan plan is = record {
-  same = λ r. lead_same plan r (link_at plan r).from is refl (slice_get plan.tasks (link_at plan r).from) refl;
+  same = λ r. lead_same plan r (plan.from r) is refl (slice_get plan.tasks (plan.from r)) refl;
   first = λ a k r l op n.
-      let from : (link_at plan r).from ≡ a = (IsWired-plan plan is).giver a k r l op in
+      let from : plan.from r ≡ a = (IsWired-plan plan is).giver a k r l op in
       let same : lead plan r ≡ lead_in (slice_get plan.tasks a) r = ap (λ b. lead_in (slice_get plan.tasks b) r) from in
       subst (λ (q : ℕ). gives_before (system plan) a k r < gives_before (system plan) a k q) (sym same)
       (lead_at plan a k r is (slice_get plan.tasks a) refl l op (λ z. n (same ∙ z)));

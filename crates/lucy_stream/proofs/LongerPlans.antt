@@ -11,7 +11,7 @@ use Rattle.lucy_stream.specs.Forms.{Form, Given}
 use Rattle.lucy_stream.specs.Firings.{fire_value}
 use Rattle.lucy_stream.proofs.FrontLaws.{IsFront-item}
 use Rattle.lucy_stream.specs.Operations.{firing_ops, ops_of, fired_at}
-use Rattle.lucy_stream.specs.Plans.{Task, Plan, Link, link_at, task_ops, system, task_value, machine, HasInput, IsFed, no_link}
+use Rattle.lucy_stream.specs.Plans.{Task, Plan, task_ops, system, task_value, machine, HasInput, IsFed}
 use Rattle.lucy_stream.specs.Horizons.{IsLonger, KeepsValues, IsLongerTask, IsLongerPlan}
 use Rattle.lucy_stream.proofs.OperatingLaws.{IsIn, same_length, find_firing}
 
@@ -92,13 +92,12 @@ value_longer kinds inputs more (Some t) (Some u) n took fronts fed h l =
 -- more firings of each actor are longer lists
 pub IsLonger-plan : (plan longer : Plan) → IsLongerPlan plan longer → IsLonger (system plan) (system longer)
 IsLonger-plan plan longer h =
-    let link : (r : ℕ) → link_at longer r ≡ link_at plan r = λ r. ap (λ xs. get_or xs r no_link) h.links in
     let tasks : (a : ℕ) → IsGrown (task_ops (slice_get plan.tasks a)) (task_ops (slice_get longer.tasks a)) =
     λ a. task_ops_grown (slice_get plan.tasks a) (slice_get longer.tasks a) (longer_at plan.tasks longer.tasks a h.tasks) in
     record {
-      from = λ r. ap (λ (l : Link). l.from) (link r);
-      to = λ r. ap (λ (l : Link). l.to) (link r);
-      size = λ r. ap (λ (l : Link). l.size) (link r);
+      from = h.from;
+      to = h.to;
+      size = h.size;
       lengths = λ a. (tasks a).lengths;
       ops = λ a. (tasks a).front;
     }

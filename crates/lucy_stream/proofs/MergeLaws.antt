@@ -2,7 +2,7 @@
 use Rattle.std.proofs.Common.{ℕ, suc, zero, ◌+◌, ◌-◌, ◌<◌, ◌≤◌, ◌≡◌, true, false, cond, List, [], ◌∷◌, length, ap, sym, refl, ◌∙◌, subst, inl, inr, arith}
 use Rattle.std.specs.Prelude.{ℤ, pos, Option, Some, None, slice_get}
 use Rattle.std.proofs.lemmas.Bool.{cases_Bool}
-use Rattle.std.proofs.lemmas.Option.{slice_get-get_or}
+use Rattle.std.proofs.lemmas.Option.{slice_get-get_or, slice_get_within}
 use Rattle.lucy_word.specs.Bits.{Bits, bit_at, one_if, ones_to}
 use Rattle.lucy_word.proofs.BitsLaws.{ones_to-none, ones_to-more, ones_to-le}
 use Rattle.lucy_stream.specs.Items.{item_at}
@@ -50,21 +50,16 @@ record IsBegun (word : Bits) (xs ys : List ℤ) (k : ℕ) : Type 0 where
   pub ones : ones_to word k ≤ length xs
   pub zeros : k ≤ ones_to word k + length ys
 
-get_within : (xs : List ℤ) (i : ℕ) (v : ℤ) → slice_get xs i ≡ Some v → i < length xs
-get_within [] i v h = cc
-get_within (x ∷ xs) zero v h = omega arith
-get_within (x ∷ xs) (suc i) v h = omega (arith, get_within xs i v h)
-
 -- one item more
 begun_more : (word : Bits) (xs ys : List ℤ) (k : ℕ) (v : ℤ) → IsBegun word xs ys k → merge_item word xs ys (k + 1) ≡ Some v → IsBegun word xs ys (k + 1)
 begun_more word xs ys k v begun h = elim (cases_Bool (bit_at word (k + 1))) [
   | inl b ↦
       let one : one_if (bit_at word (k + 1)) ≡ 1 = ap one_if b in
-      let there : ones_to word (k + 1) - 1 < length xs = get_within xs (ones_to word (k + 1) - 1) v (sym (merge_item-one word xs ys (k + 1) b) ∙ h) in
+      let there : ones_to word (k + 1) - 1 < length xs = slice_get_within xs (ones_to word (k + 1) - 1) v (sym (merge_item-one word xs ys (k + 1) b) ∙ h) in
       record { ones = omega (arith, ones_to-more word k); zeros = omega (arith, ones_to-more word k, begun.zeros) }
   | inr b ↦
       let none : one_if (bit_at word (k + 1)) ≡ 0 = ap one_if b in
-      let there : k + 1 - ones_to word (k + 1) - 1 < length ys = get_within ys (k + 1 - ones_to word (k + 1) - 1) v (sym (merge_item-zero word xs ys (k + 1) b) ∙ h) in
+      let there : k + 1 - ones_to word (k + 1) - 1 < length ys = slice_get_within ys (k + 1 - ones_to word (k + 1) - 1) v (sym (merge_item-zero word xs ys (k + 1) b) ∙ h) in
       record { ones = omega (arith, ones_to-more word k, begun.ones); zeros = omega (arith, ones_to-more word k, ones_to-le word k) }
 ]
 

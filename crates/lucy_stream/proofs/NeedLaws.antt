@@ -18,7 +18,7 @@ use Rattle.lucy_host.specs.HostValue.{hosted_value}
 use Rattle.lucy_stream.specs.Lists.{shortest, item_by_item, kept, form_list}
 use Rattle.lucy_stream.specs.Merges.{merge_item, merged}
 use Rattle.lucy_stream.specs.Iterates.{Place, lists_of, iterate}
-use Rattle.lucy_stream.specs.Needs.{IsNeed, Item, Needs, IsWalk, ReachesItself}
+use Rattle.lucy_stream.specs.Needs.{IsNeed, StreamItem, Needs, IsWalk, ReachesItself}
 use Rattle.lucy_stream.proofs.ListLaws.{shortest-le}
 use Rattle.lucy_stream.proofs.KeptLaws.{kept-length}
 use Rattle.lucy_stream.proofs.MergeLaws.{merged-is, merge_item-one, merge_item-zero}
@@ -74,7 +74,7 @@ operand_list : (lists : List (List ℤ)) (reads : List ℕ) (j i : ℕ) → slic
 operand_list lists reads j i e =
     get_or-map (list_at lists) reads j 0 [] (slice_get_within reads j i e) ∙ ap (list_at lists) (get_or_from_slice_get reads j i 0 e)
 
-pub needs_back : (kinds : List HostKind) (inputs : List (List ℤ)) (places : List Place) (n : ℕ) (x y : Item) → 1 ≤ x.number → Needs places x y →
+pub needs_back : (kinds : List HostKind) (inputs : List (List ℤ)) (places : List Place) (n : ℕ) (x y : StreamItem) → 1 ≤ x.number → Needs places x y →
     x.number ≤ length (list_at (iterate kinds inputs places (suc n)) x.place) → y.number ≤ length (list_at (iterate kinds inputs places n) y.place)
 needs_back kinds inputs places n x y one need l =
     let lists : List (List ℤ) = iterate kinds inputs places n in
@@ -84,7 +84,7 @@ needs_back kinds inputs places n x y one need l =
     form_back kinds inputs n place.form (lists_of lists place.reads) x.number need.operand y.number need.within one need.counted need.need (omega (arith, ap length here)) in
     omega (arith, ap length (operand_list lists place.reads need.operand y.place need.reads))
 
-walk_back : (kinds : List HostKind) (inputs : List (List ℤ)) (places : List Place) (n : ℕ) (x end : Item) (walk : List Item) → 1 ≤ x.number → IsWalk places x walk end →
+walk_back : (kinds : List HostKind) (inputs : List (List ℤ)) (places : List Place) (n : ℕ) (x end : StreamItem) (walk : List StreamItem) → 1 ≤ x.number → IsWalk places x walk end →
     x.number ≤ length (list_at (iterate kinds inputs places (suc n)) x.place) → (m : ℕ) × (m ≤ n) × (end.number ≤ length (list_at (iterate kinds inputs places m) end.place))
 walk_back kinds inputs places n x end [] one w l = (n, omega arith, needs_back kinds inputs places n x end one w l)
 walk_back kinds inputs places zero x end (y ∷ walk) one w l =
@@ -93,7 +93,7 @@ walk_back kinds inputs places (suc n) x end (y ∷ walk) one w l =
     let r = walk_back kinds inputs places n y end walk w.0.counted w.1 (needs_back kinds inputs places (suc n) x y one w.0 l) in
     (r.0, omega (arith, r.1), r.2)
 
-no_cycle_within : (kinds : List HostKind) (inputs : List (List ℤ)) (places : List Place) (bound n : ℕ) (x : Item) (walk : List Item) → 1 ≤ x.number → n ≤ bound → IsWalk places x walk x →
+no_cycle_within : (kinds : List HostKind) (inputs : List (List ℤ)) (places : List Place) (bound n : ℕ) (x : StreamItem) (walk : List StreamItem) → 1 ≤ x.number → n ≤ bound → IsWalk places x walk x →
     x.number ≤ length (list_at (iterate kinds inputs places n) x.place) → ⊥
 no_cycle_within kinds inputs places bound zero x walk one b w l = absurd (omega (arith, ap length (iterate-none kinds inputs places x.place)))
 no_cycle_within kinds inputs places zero (suc n) x walk one b w l = absurd (omega arith)
@@ -101,5 +101,5 @@ no_cycle_within kinds inputs places (suc bound) (suc n) x walk one b w l =
     let r = walk_back kinds inputs places n x x walk one w l in
     no_cycle_within kinds inputs places bound r.0 x walk one (omega (arith, r.1)) w r.2
 
-pub no_cycle : (kinds : List HostKind) (inputs : List (List ℤ)) (places : List Place) (n : ℕ) (x : Item) → 1 ≤ x.number → x.number ≤ length (list_at (iterate kinds inputs places n) x.place) → ReachesItself places x → ⊥
+pub no_cycle : (kinds : List HostKind) (inputs : List (List ℤ)) (places : List Place) (n : ℕ) (x : StreamItem) → 1 ≤ x.number → x.number ≤ length (list_at (iterate kinds inputs places n) x.place) → ReachesItself places x → ⊥
 no_cycle kinds inputs places n x one l reaches = no_cycle_within kinds inputs places n n x reaches.0 one (omega arith) reaches.1 l

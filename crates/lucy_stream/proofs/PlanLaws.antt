@@ -9,12 +9,12 @@ use Rattle.lucy_stream.specs.Firings.{fire_value}
 use Rattle.lucy_stream.specs.Systems.{RingOp, Takes, Gives, IsWired}
 use Rattle.lucy_stream.specs.States.{IsLocal}
 use Rattle.lucy_stream.specs.Operations.{firing_ops, ops_of, fired_at}
-use Rattle.lucy_stream.specs.Plans.{Task, Plan, link_at, task_ops, system, task_value, machine, IsPluggedAt, IsPlugged}
+use Rattle.lucy_stream.specs.Plans.{Task, Plan, task_ops, system, task_value, machine, IsPluggedAt, IsPlugged}
 
 -- an operation on a ring of the actor
 abbrev pub IsOwn : Plan → ℕ → RingOp → Type 0
-IsOwn plan a (Takes r) = (link_at plan r).to ≡ a
-IsOwn plan a (Gives r) = (link_at plan r).from ≡ a
+IsOwn plan a (Takes r) = plan.to r ≡ a
+IsOwn plan a (Gives r) = plan.from r ≡ a
 
 own_gives : (plan : Plan) (a : ℕ) (task : Task) → IsPluggedAt plan a task → All (IsOwn plan a) (map Gives task.gives)
 own_gives plan a task is = All-map (IsOwn plan a) Gives task.gives is.gives
@@ -28,10 +28,10 @@ own_firing plan a task is (Kept word) l k =
     let one : All (IsOwn plan a) (map Takes task.takes ++ []) = All-append (IsOwn plan a) (map Takes task.takes) [] (own_takes plan a task is) (All-nil (IsOwn plan a)) in
     elim (bit_at word (k + 1)) as (λ c. All (IsOwn plan a) (map Takes task.takes ++ cond c (map Gives task.gives) [])) [ true ↦ both | false ↦ one ]
 own_firing plan a task is (Merged word) l k =
-    let first : (link_at plan (get_or task.takes 0 0)).to ≡ a = All-get_or (λ r. (link_at plan r).to ≡ a) task.takes 0 0 (omega arith) is.takes in
-    let second : (link_at plan (get_or task.takes 1 0)).to ≡ a = All-get_or (λ r. (link_at plan r).to ≡ a) task.takes 1 0 (omega arith) is.takes in
+    let first : plan.to (get_or task.takes 0 0) ≡ a = All-get_or (λ r. plan.to r ≡ a) task.takes 0 0 (omega arith) is.takes in
+    let second : plan.to (get_or task.takes 1 0) ≡ a = All-get_or (λ r. plan.to r ≡ a) task.takes 1 0 (omega arith) is.takes in
     All-cons (IsOwn plan a) (Takes (cond (bit_at word (k + 1)) (get_or task.takes 0 0) (get_or task.takes 1 0))) (map Gives task.gives)
-    (elim (bit_at word (k + 1)) as (λ c. (link_at plan (cond c (get_or task.takes 0 0) (get_or task.takes 1 0))).to ≡ a) [ true ↦ first | false ↦ second ])
+    (elim (bit_at word (k + 1)) as (λ c. plan.to (cond c (get_or task.takes 0 0) (get_or task.takes 1 0)) ≡ a) [ true ↦ first | false ↦ second ])
     (own_gives plan a task is)
 own_firing plan a task is (Delayed first) l k = All-append (IsOwn plan a) (map Gives task.gives) (map Takes task.takes) (own_gives plan a task is) (own_takes plan a task is)
 own_firing plan a task is form l k = All-append (IsOwn plan a) (map Takes task.takes) (map Gives task.gives) (own_takes plan a task is) (own_gives plan a task is)
@@ -59,12 +59,12 @@ map_alike P f g h (x ∷ xs) all =
     let rest : map f xs ≡ map g xs = map_alike P f g h xs (All-tail P x xs all) in
     cc
 
-local_at : (kinds : List HostKind) (inputs : List (List ℤ)) (plan : Plan) (a n : ℕ) (f g : ℕ → List ℤ) → IsPlugged plan → ((r : ℕ) → (link_at plan r).to ≡ a → f r ≡ g r) → (task : Option Task) → slice_get plan.tasks a ≡ task →
+local_at : (kinds : List HostKind) (inputs : List (List ℤ)) (plan : Plan) (a n : ℕ) (f g : ℕ → List ℤ) → IsPlugged plan → ((r : ℕ) → plan.to r ≡ a → f r ≡ g r) → (task : Option Task) → slice_get plan.tasks a ≡ task →
     task_value kinds inputs task n f ≡ task_value kinds inputs task n g
 local_at kinds inputs plan a n f g is h None e = refl
 local_at kinds inputs plan a n f g is h (Some task) e =
     ap (fire_value kinds inputs task.form (get_or (fired_at task.form task.takes task.gives task.quota) n 0))
-    (map_alike (λ r. (link_at plan r).to ≡ a) f g h task.takes (is a task e).takes)
+    (map_alike (λ r. plan.to r ≡ a) f g h task.takes (is a task e).takes)
 
 -- what an actor gives depends on what it took alone
 pub IsLocal-plan : (kinds : List HostKind) (inputs : List (List ℤ)) (plan : Plan) → IsPlugged plan → IsLocal (machine kinds inputs plan)

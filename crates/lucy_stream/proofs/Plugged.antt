@@ -5,7 +5,7 @@ use Rattle.std.proofs.lemmas.Bool.{cases_Bool, eqb-true}
 use Rattle.std.specs.List.{AllByRecursion}
 use Rattle.std.proofs.lemmas.List.Elements.{All-from_recursion}
 use Rattle.lucy_stream.specs.Forms.{operands}
-use Rattle.lucy_stream.specs.Plans.{Task, Plan, link_at, times, IsPluggedAt, IsPlugged}
+use Rattle.lucy_stream.specs.Plans.{Task, Plan, times, IsPluggedAt, IsPlugged}
 
 -- each of the actors is plugged, the first of them with this number
 abbrev pub ArePluggedFrom : Plan → ℕ → List Task → Type 0
@@ -24,11 +24,11 @@ pub IsPlugged-from : (plan : Plan) → ArePluggedFrom plan 0 plan.tasks → IsPl
 IsPlugged-from plan h a task e = (let here : 0 + a ≡ a = omega arith in subst (λ n. IsPluggedAt plan n task) here (plugged_at plan 0 plan.tasks h a task e))
 
 -- an actor by the parts of it, its rings one after another
-pub IsPluggedAt-from : (plan : Plan) (a : ℕ) (task : Task) → AllByRecursion (λ r. (link_at plan r).from ≡ a) task.gives → AllByRecursion (λ r. (link_at plan r).to ≡ a) task.takes →
+pub IsPluggedAt-from : (plan : Plan) (a : ℕ) (task : Task) → AllByRecursion (λ r. plan.from r ≡ a) task.gives → AllByRecursion (λ r. plan.to r ≡ a) task.takes →
     ((r : ℕ) → times r task.gives ≤ 1) → ((r : ℕ) → times r task.takes ≤ 1) → length task.takes ≡ operands task.form → IsPluggedAt plan a task
 IsPluggedAt-from plan a task gives takes gives_once takes_once arity = record {
-  gives = All-from_recursion (λ r. (link_at plan r).from ≡ a) task.gives gives;
-  takes = All-from_recursion (λ r. (link_at plan r).to ≡ a) task.takes takes;
+  gives = All-from_recursion (λ r. plan.from r ≡ a) task.gives gives;
+  takes = All-from_recursion (λ r. plan.to r ≡ a) task.takes takes;
   gives_once = gives_once;
   takes_once = takes_once;
   arity = arity;

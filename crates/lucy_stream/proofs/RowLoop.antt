@@ -9,7 +9,7 @@ use Rattle.lucy_stream.proofs.Plugged.{IsPluggedAt-from, IsPlugged-from, once_in
 
 -- y = y: the one actor takes from its own ring before it gives to it
 loop : Plan
-loop = record { tasks = record { form = Same; takes = 0 ∷ []; gives = 0 ∷ []; quota = 1 } ∷ []; links = record { from = 0; to = 0; size = 0 } ∷ [] }
+loop = record { tasks = record { form = Same; takes = 0 ∷ []; gives = 0 ∷ []; quota = 1 } ∷ []; from = λ (r : ℕ). 0; to = λ (r : ℕ). 0; size = λ (r : ℕ). 0 }
 
 loop_none : (a : ℕ) → IsPossible (system loop) none_done a → ⊥
 unfolding loop given taken

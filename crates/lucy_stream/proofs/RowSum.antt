@@ -1,6 +1,6 @@
 -- The running sum: its events in two instants, and what they move.
 use Rattle.std.proofs.Common.{ℕ, ◌*◌, zero, suc, List, [], ◌∷◌, ◌++◌, ◌≤◌, ◌≡◌, length, true, false, refl, subst, arith}
-use Rattle.std.specs.Prelude.{ℤ, pos, Option, Some, None, slice_get}
+use Rattle.std.specs.Prelude.{ℤ, pos, Option, Some, None, slice_get, slice_index_or}
 use Rattle.std.specs.Int.{int_wrap}
 use Rattle.lucy_host.specs.OpValue.{op_value}
 use Rattle.lucy_host.specs.declared.op.Op.TheVariants.{Add}
@@ -27,9 +27,9 @@ sum = record {
       ∷ record { form = Delayed (pos 0); takes = 2 ∷ []; gives = 0 ∷ []; quota = 2 }
       ∷ record { form = Pointwise Add; takes = 3 ∷ 4 ∷ []; gives = 1 ∷ []; quota = 2 }
       ∷ record { form = Same; takes = 5 ∷ []; gives = []; quota = 2 } ∷ [];
-  links =
-      record { from = 3; to = 1; size = 0 } ∷ record { from = 4; to = 2; size = 0 } ∷ record { from = 2; to = 3; size = 0 }
-      ∷ record { from = 0; to = 4; size = 0 } ∷ record { from = 1; to = 4; size = 0 } ∷ record { from = 2; to = 5; size = 0 } ∷ [];
+  from = λ (r : ℕ). slice_index_or (3 ∷ 4 ∷ 2 ∷ 0 ∷ 1 ∷ 2 ∷ []) r 0;
+  to = λ (r : ℕ). slice_index_or (1 ∷ 2 ∷ 3 ∷ 4 ∷ 4 ∷ 5 ∷ []) r 0;
+  size = λ (r : ℕ). 0;
 }
 
 -- x 1, x 2, x 3

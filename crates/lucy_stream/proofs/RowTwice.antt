@@ -1,6 +1,6 @@
 -- Each item twice, by a merge that takes from one ring at a time: its events in two instants, and what they move.
 use Rattle.std.proofs.Common.{ℕ, ◌*◌, zero, suc, List, [], ◌∷◌, ◌≡◌, length, true, false, refl, arith}
-use Rattle.std.specs.Prelude.{pos}
+use Rattle.std.specs.Prelude.{pos, slice_index_or}
 use Rattle.lucy_word.specs.Bits.{bit_at, ones_to}
 use Rattle.lucy_stream.specs.Forms.{Given, Merged, Same}
 use Rattle.lucy_stream.specs.Systems.{given, taken}
@@ -22,9 +22,9 @@ twice = record {
       ∷ record { form = Merged (record { prefix = []; period = true ∷ false ∷ [] }); takes = 1 ∷ 2 ∷ []; gives = 0 ∷ []; quota = 2 }
       ∷ record { form = Same; takes = 3 ∷ []; gives = 2 ∷ []; quota = 1 }
       ∷ record { form = Same; takes = 4 ∷ []; gives = []; quota = 2 } ∷ [];
-  links =
-      record { from = 2; to = 1; size = 0 } ∷ record { from = 0; to = 2; size = 0 } ∷ record { from = 3; to = 2; size = 0 }
-      ∷ record { from = 0; to = 3; size = 1 } ∷ record { from = 1; to = 4; size = 0 } ∷ [];
+  from = λ (r : ℕ). slice_index_or (2 ∷ 0 ∷ 3 ∷ 0 ∷ 1 ∷ []) r 0;
+  to = λ (r : ℕ). slice_index_or (1 ∷ 2 ∷ 2 ∷ 3 ∷ 4 ∷ []) r 0;
+  size = λ (r : ℕ). slice_index_or (0 ∷ 0 ∷ 0 ∷ 1 ∷ 0 ∷ []) r 0;
 }
 
 -- x 5, x 6, x 7

@@ -32,7 +32,7 @@ took_length m s a r wired possible g h =
     ]
 
 -- what an actor's operation so far had taken is there
-before_le : (m : Machine) (s : State) (b n q : ℕ) → m.sys.to q ≡ b → n ≤ s.done b → length (s.took q) ≡ taken m.sys s.done q → takes_before m.sys b n q ≤ length (s.took q)
+pub before_le : (m : Machine) (s : State) (b n q : ℕ) → m.sys.to q ≡ b → n ≤ s.done b → length (s.took q) ≡ taken m.sys s.done q → takes_before m.sys b n q ≤ length (s.took q)
 before_le m s b n q t l h = omega (arith, taken-is m.sys s.done b (s.done b) q t refl, count_take-le (is_take q) (m.sys.ops b) n (s.done b) l)
 
 -- so its value stays

@@ -27,4 +27,6 @@ pub record IsLongerTask (task longer : Task) : Type 0 where
 -- the same rings and actors, each with as many firings or more
 pub record IsLongerPlan (plan longer : Plan) : Type 0 where
   pub tasks : AllZip IsLongerTask plan.tasks longer.tasks
-  pub links : longer.links ≡ plan.links
+  pub from : (r : ℕ) → longer.from r ≡ plan.from r
+  pub to : (r : ℕ) → longer.to r ≡ plan.to r
+  pub size : (r : ℕ) → longer.size r ≡ plan.size r

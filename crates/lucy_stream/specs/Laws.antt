@@ -9,7 +9,7 @@ use Rattle.lucy_stream.specs.Fronts.{IsFront, AreFronts}
 use Rattle.lucy_stream.specs.Forms.{Form, operands}
 use Rattle.lucy_stream.specs.Iterates.{Place, lists_of, iterate}
 use Rattle.lucy_stream.specs.Firings.{fire_value, DoesGive, gave_in, HasTaken, IsThere}
-use Rattle.lucy_stream.specs.Needs.{IsNeed, Item, Needs, ReachesItself}
+use Rattle.lucy_stream.specs.Needs.{IsNeed, StreamItem, Needs, ReachesItself}
 
 -- a sampling keeps the items whose number has a one, in their order, and no others
 pub record SamplingsKeepTheOnes : Type 0 where
@@ -46,13 +46,13 @@ pub record ItemsNeedWhatWasThere : Type 0 where
   pub form : (kinds : List HostKind) (inputs : List (List ℤ)) (n : ℕ) (form : Form) (lists : List (List ℤ)) (k j m : ℕ) →
       j < operands form → 1 ≤ k → 1 ≤ m → IsNeed form k j m → k ≤ length (form_list kinds inputs n form lists) →
       m ≤ length (list_at lists j)
-  pub iterates : (kinds : List HostKind) (inputs : List (List ℤ)) (places : List Place) (n : ℕ) (x y : Item) → 1 ≤ x.number →
+  pub iterates : (kinds : List HostKind) (inputs : List (List ℤ)) (places : List Place) (n : ℕ) (x y : StreamItem) → 1 ≤ x.number →
       Needs places x y → x.number ≤ length (list_at (iterate kinds inputs places (suc n)) x.place) →
       y.number ≤ length (list_at (iterate kinds inputs places n) y.place)
 
 -- no item that some iterate has reaches itself
 abbrev pub IteratesHaveNoCycle : Type 0
-IteratesHaveNoCycle = (kinds : List HostKind) (inputs : List (List ℤ)) (places : List Place) (n : ℕ) (x : Item) → 1 ≤ x.number →
+IteratesHaveNoCycle = (kinds : List HostKind) (inputs : List (List ℤ)) (places : List Place) (n : ℕ) (x : StreamItem) → 1 ≤ x.number →
     x.number ≤ length (list_at (iterate kinds inputs places n) x.place) → ReachesItself places x → ⊥
 
 -- what a firing gives, by the newest item of each operand, is in its form's list of all that was taken: the item after those that were

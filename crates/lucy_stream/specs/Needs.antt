@@ -14,12 +14,12 @@ IsNeed (Delayed first) k j m = k ≡ m + 1
 IsNeed form k j m = m ≡ k
 
 -- an item: its place, and its number in the place's stream
-pub record Item : Type 0 where
+pub record StreamItem : Type 0 where
   pub place : ℕ
   pub number : ℕ
 
 -- the one item depends on the other, by some operand of its place
-pub record Needs (places : List Place) (x y : Item) : Type 0 where
+pub record Needs (places : List Place) (x y : StreamItem) : Type 0 where
   pub place : Place
   pub there : slice_get places x.place ≡ Some place
   pub operand : ℕ
@@ -29,19 +29,19 @@ pub record Needs (places : List Place) (x y : Item) : Type 0 where
   pub need : IsNeed place.form x.number operand y.number
 
 -- each item of the walk depends on the next one, and the last one on `end`
-abbrev pub IsWalk : List Place → Item → List Item → Item → Type 0
+abbrev pub IsWalk : List Place → StreamItem → List StreamItem → StreamItem → Type 0
 IsWalk places x [] end = Needs places x end
 IsWalk places x (y ∷ walk) end = Needs places x y × IsWalk places y walk end
 
 -- the item reaches itself
-abbrev pub ReachesItself : List Place → Item → Type 0
-ReachesItself places x = (walk : List Item) × IsWalk places x walk x
+abbrev pub ReachesItself : List Place → StreamItem → Type 0
+ReachesItself places x = (walk : List StreamItem) × IsWalk places x walk x
 
 -- each of the items depends on the next one, and the last one on the first
-abbrev pub IsCycle : List Place → List Item → Type 0
+abbrev pub IsCycle : List Place → List StreamItem → Type 0
 IsCycle places [] = ⊥
 IsCycle places (x ∷ walk) = IsWalk places x walk x
 
 -- no item reaches itself
 abbrev pub IsCausal : List Place → Type 0
-IsCausal places = (x : Item) → 1 ≤ x.number → ReachesItself places x → ⊥
+IsCausal places = (x : StreamItem) → 1 ≤ x.number → ReachesItself places x → ⊥

@@ -9,7 +9,7 @@ use Rattle.lucy_stream.specs.Needs.{IsNeed}
 use Rattle.lucy_stream.specs.Systems.{System, IsWired, Takes, is_give, is_take}
 use Rattle.lucy_stream.specs.Runs.{none_done, IsRun, after, IsWhole, between, IsFinished}
 use Rattle.lucy_stream.specs.States.{Machine, IsLocal, State, start, events, IsSame, IsState, Reaches}
-use Rattle.lucy_stream.specs.Plans.{times, IsOperand, Plan, system, machine, IsPlugged, IsFed, Task, link_at, kahn_list, IsRunnable}
+use Rattle.lucy_stream.specs.Plans.{times, IsOperand, Plan, system, machine, IsPlugged, IsFed, Task, kahn_list, IsRunnable}
 use Rattle.lucy_stream.specs.Horizons.{IsLonger, KeepsValues, IsLongerPlan}
 use Rattle.lucy_stream.specs.Operations.{firing_ops, ops_of, fired_at, IsOnRings}
 
@@ -89,12 +89,12 @@ pub record RunsGiveKahnPrefixes : Type 0 where
       IsRunnable inputs plan count most → IsWhole (system plan) order → IsState (machine kinds inputs plan) s →
       IsFront (s.took r) (kahn_list kinds inputs plan (count * most) r)
   pub whole : (kinds : List HostKind) (inputs : List (List ℤ)) (plan : Plan) (count most : ℕ) (order : List ℕ) (r : ℕ) (task : Task) →
-      IsRunnable inputs plan count most → IsWhole (system plan) order → slice_get plan.tasks (link_at plan r).from ≡ Some task →
+      IsRunnable inputs plan count most → IsWhole (system plan) order → slice_get plan.tasks (plan.from r) ≡ Some task →
       times r task.gives ≡ 1 →
       (events (machine kinds inputs plan) start order).gave r
       ≡ take (gave_in task.form task.quota) (kahn_list kinds inputs plan (count * most) r)
   pub enough : (kinds : List HostKind) (inputs : List (List ℤ)) (plan : Plan) (count most : ℕ) (order : List ℕ) (r : ℕ) (task : Task) →
-      IsRunnable inputs plan count most → IsWhole (system plan) order → slice_get plan.tasks (link_at plan r).from ≡ Some task →
+      IsRunnable inputs plan count most → IsWhole (system plan) order → slice_get plan.tasks (plan.from r) ≡ Some task →
       times r task.gives ≡ 1 → gave_in task.form task.quota ≤ length (kahn_list kinds inputs plan (count * most) r)
 
 -- In a finished state the list given to a ring, and the list taken from it, are its giver's list in this iterate, cut at the numbers of
@@ -103,10 +103,10 @@ pub record FinishedStatesHoldKahnStreams : Type 0 where
   pub gave : (kinds : List HostKind) (inputs : List (List ℤ)) (plan : Plan) (count most : ℕ) (order : List ℕ) (s : State)
       (r : ℕ) (task : Task) →
       IsRunnable inputs plan count most → IsWhole (system plan) order → IsState (machine kinds inputs plan) s →
-      IsFinished (system plan) s.done → slice_get plan.tasks (link_at plan r).from ≡ Some task → times r task.gives ≡ 1 →
+      IsFinished (system plan) s.done → slice_get plan.tasks (plan.from r) ≡ Some task → times r task.gives ≡ 1 →
       s.gave r ≡ take (gave_in task.form task.quota) (kahn_list kinds inputs plan (count * most) r)
   pub took : (kinds : List HostKind) (inputs : List (List ℤ)) (plan : Plan) (count most : ℕ) (order : List ℕ) (s : State)
       (r j : ℕ) (task : Task) →
       IsRunnable inputs plan count most → IsWhole (system plan) order → IsState (machine kinds inputs plan) s →
-      IsFinished (system plan) s.done → slice_get plan.tasks (link_at plan r).to ≡ Some task → IsOperand task.takes j r →
+      IsFinished (system plan) s.done → slice_get plan.tasks (plan.to r) ≡ Some task → IsOperand task.takes j r →
       s.took r ≡ take (took_in task.form task.quota j) (kahn_list kinds inputs plan (count * most) r)

@@ -16,24 +16,12 @@ pub record Task : Type 0 where
   pub gives : List ℕ
   pub quota : ℕ
 
--- a ring: the actor that gives to it, the one that takes from it, and its size
-pub record Link : Type 0 where
-  pub from : ℕ
-  pub to : ℕ
-  pub size : ℕ
-
--- the actors and the rings
+-- the actors and the rings: who gives to and who takes from each ring, and the ring's size
 pub record Plan : Type 0 where
   pub tasks : List Task
-  pub links : List Link
-
--- a ring that isn't there
-abbrev pub no_link : Link
-no_link = record { from = 0; to = 0; size = 0 }
-
--- the ring of this number
-abbrev pub link_at : Plan → ℕ → Link
-link_at plan r = slice_index_or plan.links r no_link
+  pub from : ℕ → ℕ
+  pub to : ℕ → ℕ
+  pub size : ℕ → ℕ
 
 -- the operations of an actor, none where there is no such actor
 abbrev pub task_ops : Option Task → List RingOp
@@ -44,9 +32,9 @@ task_ops (Some task) = ops_of task.form task.takes task.gives task.quota
 abbrev pub system : Plan → System
 system plan = record {
   ops = λ (a : ℕ). task_ops (slice_get plan.tasks a);
-  from = λ (r : ℕ). (link_at plan r).from;
-  to = λ (r : ℕ). (link_at plan r).to;
-  size = λ (r : ℕ). (link_at plan r).size;
+  from = plan.from;
+  to = plan.to;
+  size = plan.size;
 }
 
 -- what an actor gives at its operation after n others, by what was taken from its rings
@@ -74,8 +62,8 @@ pub record IsOperand (takes : List ℕ) (j r : ℕ) : Type 0 where
 -- the actor of this number is the one that gives to the rings of its one list and takes from those of the other: each ring
 -- stands in its list once, and there is one to take from for each operand
 pub record IsPluggedAt (plan : Plan) (a : ℕ) (task : Task) : Type 0 where
-  pub gives : All (λ r. (link_at plan r).from ≡ a) task.gives
-  pub takes : All (λ r. (link_at plan r).to ≡ a) task.takes
+  pub gives : All (λ r. plan.from r ≡ a) task.gives
+  pub takes : All (λ r. plan.to r ≡ a) task.takes
   pub gives_once : (r : ℕ) → times r task.gives ≤ 1
   pub takes_once : (r : ℕ) → times r task.takes ≤ 1
   pub arity : length task.takes ≡ operands task.form
@@ -95,7 +83,7 @@ IsFed inputs plan = (a : ℕ) (task : Task) → slice_get plan.tasks a ≡ Some 
 
 -- the place that an actor is: it reads those that give to its rings
 abbrev pub place_of : Plan → Task → Place
-place_of plan task = record { form = task.form; reads = map (λ r. (link_at plan r).from) task.takes }
+place_of plan task = record { form = task.form; reads = map plan.from task.takes }
 
 -- the places that the actors are
 abbrev pub places_of : Plan → List Place
@@ -103,7 +91,7 @@ places_of plan = map (place_of plan) plan.tasks
 
 -- the list, in iterate n of these places, of the actor that gives to the ring
 abbrev pub kahn_list : List HostKind → List (List ℤ) → Plan → ℕ → ℕ → List ℤ
-kahn_list kinds inputs plan n r = list_at (iterate kinds inputs (places_of plan) n) (link_at plan r).from
+kahn_list kinds inputs plan n r = list_at (iterate kinds inputs (places_of plan) n) (plan.from r)
 
 -- no actor has more firings than so many
 abbrev pub QuotasWithin : Plan → ℕ → Type 0

@@ -13,7 +13,7 @@ use Rattle.lucy_stream.specs.Actors.{StandsAs, moved, IsSameAt}
 use Rattle.lucy_stream.specs.Counted.{state_at}
 use Rattle.lucy_stream.specs.Instants.{IsInstant, Waits, IsAlike}
 use Rattle.lucy_stream.specs.Horizons.{IsLonger}
-use Rattle.lucy_stream.specs.Schedules.{all_done, AreWhole}
+use Rattle.lucy_stream.specs.Schedules.{all_done, events_to}
 
 -- in every run no more is taken from a ring than was given, and a ring holds at most its size and one more: the item that is given and
 -- taken in one instant
@@ -160,4 +160,5 @@ pub record AlikeCountsRunAlike : Type 0 where
 abbrev pub StepsMakeSoundSchedules : Type 0
 StepsMakeSoundSchedules = (systems : ℕ → System) (events : ℕ → List ℕ) → ((a : ℕ) → length ((systems 0).ops a) ≡ 0) →
     ((n : ℕ) → IsLonger (systems n) (systems (suc n))) →
-    ((n : ℕ) → Leads (systems (suc n)) (all_done (systems n)) (events (suc n)) (all_done (systems (suc n)))) → AreWhole systems events
+    ((n : ℕ) → Leads (systems (suc n)) (all_done (systems n)) (events (suc n)) (all_done (systems (suc n)))) →
+    (n : ℕ) → IsWhole (systems n) (events_to events n)

@@ -2,7 +2,6 @@
 -- is to be done, and events are those that a horizon adds to the one before.
 use Rattle.std.specs.Prelude.{ℕ, suc, zero, List, [], ◌++◌, length}
 use Rattle.lucy_stream.specs.Systems.{System}
-use Rattle.lucy_stream.specs.Runs.{IsWhole}
 
 -- every actor has done all its operations
 abbrev pub all_done : System → ℕ → ℕ
@@ -12,7 +11,3 @@ all_done sys a = length (sys.ops a)
 abbrev pub events_to : (ℕ → List ℕ) → ℕ → List ℕ
 events_to events zero = []
 events_to events (suc n) = events_to events n ++ events (suc n)
-
--- for every horizon the events up to it are a run of all operations up to it
-abbrev pub AreWhole : (ℕ → System) → (ℕ → List ℕ) → Type 0
-AreWhole systems events = (n : ℕ) → IsWhole (systems n) (events_to events n)

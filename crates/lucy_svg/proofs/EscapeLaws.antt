@@ -5,9 +5,9 @@ use Rattle.std.proofs.lemmas.Bool.{cases_eq, ne_eqb}
 use Rattle.lucy_svg.specs.Escaping.{name_of, written, escaped_byte, escaped, before, plain, read_on, unescaped}
 
 -- a byte that is no mark has no name
-no_name : (byte : ℕ) → (byte == 34) ≡ false → (byte == 38) ≡ false → (byte == 39) ≡ false → (byte == 60) ≡ false →
+pub no_name_of : (byte : ℕ) → (byte == 34) ≡ false → (byte == 38) ≡ false → (byte == 39) ≡ false → (byte == 60) ≡ false →
     (byte == 62) ≡ false → name_of byte ≡ None
-no_name byte a b c d e = simp (a, b, c, d, e)
+no_name_of byte a b c d e = simp (a, b, c, d, e)
 
 -- what a byte before the rest is read as
 abbrev ReadsOne : (rest text : List ℕ) → ℕ → Type 0
@@ -42,7 +42,7 @@ module _ (rest text : List ℕ) (is : read_on None rest ≡ Some text) where
                                 | inl e ↦ at_mark byte 62 e (ap (before 62) is)
                                 | inr g ↦
                                     bare byte (ne_eqb byte 38 b)
-                                    (no_name byte (ne_eqb byte 34 a) (ne_eqb byte 38 b) (ne_eqb byte 39 c) (ne_eqb byte 60 d) (ne_eqb byte 62 g))
+                                    (no_name_of byte (ne_eqb byte 34 a) (ne_eqb byte 38 b) (ne_eqb byte 39 c) (ne_eqb byte 60 d) (ne_eqb byte 62 g))
                               ]
                         ]
                   ]

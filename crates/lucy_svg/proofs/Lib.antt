@@ -2,5 +2,5 @@ mod OneLaws
 mod JoinLaws
 mod FlowLaws
 mod ToldLaws
-mod EscapeLaws
+pub mod EscapeLaws
 mod SheetLaws

@@ -4,23 +4,20 @@ use Rattle.std.specs.Prelude.{if◌then◌else◌}
 use Rattle.std.proofs.lemmas.List.{length_push}
 use Rattle.std.proofs.lemmas.List.FromFn.{length-map-range_with_len, get_or-map-range_with_len, map-range_with_len_more}
 use Rattle.std.proofs.lemmas.Bool.{cases_Bool}
+use Rattle.std.proofs.lemmas.Option.{none-some}
 use Rattle.lucy_word.specs.Bits.{Bits, bit_at, one_if, ones_to}
 use Rattle.lucy_word.specs.Index.{IsIndex}
 use Rattle.lucy_word.proofs.BitsLaws.{ones_to-more, ones_to-none}
 use Rattle.lucy_word.proofs.IndexLaws.{ones_to-rises, IsIndex-from}
-use Rattle.lucy_types.proofs.ListLaws.{get_push, none_some}
+use Rattle.lucy_types.proofs.ListLaws.{get_push}
 use Rattle.lucy_picture.specs.Charts.{marks_of}
 use Rattle.lucy_svg.specs.Flows.{counts_of}
 use Rattle.lucy_svg.specs.Ones.{AreOnes}
 
-pub one_most : (b : Bool) → one_if b ≤ 1
-one_most true = omega arith
-one_most false = omega arith
-
 pub ones_none : (w : Bits) → AreOnes w 0 []
 ones_none w = record {
   all = sym (ones_to-none w);
-  each = λ k at h. absurd (none_some at h);
+  each = λ k at h. absurd (none-some at h);
 }
 
 module _ (w : Bits) (i : ℕ) (old : List ℕ) (are : AreOnes w i old) where

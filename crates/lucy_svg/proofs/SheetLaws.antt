@@ -2,6 +2,7 @@
 use Rattle.std.proofs.Common.{ℕ, zero, suc, ◌+◌, ◌≡◌, Bool, true, false, List, [], ◌∷◌, ◌++◌, Some, length, take, min, refl, ap, sym, ◌∙◌, subst, append_assoc, append-nil, add-one, arith}
 use Rattle.std.proofs.lemmas.Bool.Decides.{nat_tests}
 use Rattle.std.specs.Prelude.{slice_get, codes, nat_eq, if◌then◌else◌, Result, Ok, Err, OnOk}
+use Rattle.lucy_word.proofs.Lists.{three}
 use Rattle.lucy_picture.specs.declared.fill.Fill.{Fill}
 use Rattle.lucy_picture.specs.Holding.{Puts}
 use Rattle.lucy_picture.proofs.HoldLaws.{puts_more, puts_one, puts_part}
@@ -73,10 +74,6 @@ module _ {A : Type 0} (P : A → List ℕ → Type 0) where
 pub on_ok : {T E : Type 0} (r : Result T E) (P Q : Type 0) → OnOk r P → (P → Q) → OnOk r Q
 on_ok (Ok x) P Q p f = f p
 on_ok (Err e) P Q p f = tt
-
--- three pieces
-pub three : (a b c d p q r : List ℕ) → b ≡ a ++ p → c ≡ b ++ q → d ≡ c ++ r → d ≡ a ++ (p ++ (q ++ r))
-three a b c d p q r one two last = last ∙ ap (λ x. x ++ r) (two ∙ ap (λ x. x ++ q) one) ∙ append_assoc (a ++ p) q r ∙ append_assoc a p (q ++ r)
 
 -- the pieces of an SVG
 pub svg_text : (a b c d e f g h p q r s t u v : List ℕ) → b ≡ a ++ p → c ≡ b ++ q → d ≡ c ++ r → e ≡ d ++ s → f ≡ e ++ t → g ≡ f ++ u → h ≡ g ++ v → h ≡ a ++ (p ++ (q ++ ((r ++ s) ++ ((t ++ u) ++ v))))

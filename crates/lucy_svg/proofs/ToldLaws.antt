@@ -2,19 +2,19 @@
 use Rattle.std.proofs.Common.{ℕ, zero, suc, ◌+◌, ◌≡◌, List, [], ◌∷◌, ◌++◌, Option, Some, length, set, refl, sym, ap, ◌∙◌, subst, inl, inr, arith}
 use Rattle.std.specs.Prelude.{slice_get, IfSome, ◌⊎◌}
 use Rattle.std.proofs.lemmas.List.{length_push}
-use Rattle.std.proofs.lemmas.Option.{same_Some}
+use Rattle.std.proofs.lemmas.Option.{same_Some, none-some}
 use Rattle.lucy_tree.specs.declared.span.Name.{Name}
 use Rattle.lucy_place.specs.declared.entry.PlaceEntry.{PlaceEntry}
 use Rattle.lucy_place.specs.declared.entry.PlaceKind.TheVariants.{Defined}
 use Rattle.lucy_place.specs.declared.placed.PlacedNode.{PlacedNode}
 use Rattle.lucy_place.specs.Standing.{at_one}
-use Rattle.lucy_types.proofs.ListLaws.{get_push, none_some}
+use Rattle.lucy_types.proofs.ListLaws.{get_push}
 use Rattle.lucy_svg.specs.Names.{IsToldBy, AreTold}
 use Rattle.lucy_svg.specs.Telling.{Tells}
 
 nothing : (p s : ℕ) → at_one {A = Option ℕ} [] p ≡ Some (Some s) → ⊥
-nothing zero s h = none_some (Some s) h
-nothing (suc p) s h = none_some (Some s) h
+nothing zero s h = none-some (Some s) h
+nothing (suc p) s h = none-some (Some s) h
 
 pub told_none : (n : PlacedNode) (streams : List (Option ℕ)) → streams ≡ [] → (length streams ≡ 0) × AreTold n streams
 told_none n streams e = (ap length e, λ p s h. absurd (nothing p s (ap (λ l. at_one l p) (sym e) ∙ h)))
@@ -35,7 +35,7 @@ module _ (n : PlacedNode) (i : ℕ) (entry : PlaceEntry) (own : Option ℕ) (old
       }
 
   told_at : AreTold n new
-  told_at zero s h = absurd (none_some (Some s) h)
+  told_at zero s h = absurd (none-some (Some s) h)
   told_at (suc k) s h =
       elim (get_push old own k (Some s) (ap (λ l. slice_get l k) (sym more) ∙ h)) [
         | inl p ↦ before (suc k) s p.1
@@ -55,7 +55,7 @@ set_get (y ∷ xs) (suc i) (suc k) v x h = elim (set_get xs i k v x h) [ inl p �
 
 -- a place is told by a stream
 pub tells_set : (old new : List (Option ℕ)) (index place stream : ℕ) → place ≡ index + 1 → new ≡ set old index (Some stream) → Tells old new place stream
-tells_set old new index place stream e made zero s h = absurd (none_some (Some s) h)
+tells_set old new index place stream e made zero s h = absurd (none-some (Some s) h)
 tells_set old new index place stream e made (suc k) s h =
     elim (set_get old index k (Some stream) (Some s) (ap (λ l. slice_get l k) (sym made) ∙ h)) [
       | inl p ↦ inl p

@@ -12,8 +12,7 @@ ghost use Rattle.lucy_svg.specs.Flows.{AreFlows};
 use crate::flow::{Flow, flows};
 use lucy_picture::{Chart, chart_of};
 use lucy_program::Accepted;
-use lucy_word::OutOfMemory;
-use std::alloc::Global;
+use std::alloc::{AllocError, Global};
 
 /// What is drawn of a node: its chronogram, and how items go through each of its buffers, in order.
 #[derive(Drop)]
@@ -28,7 +27,7 @@ pub fn drawing_of(
     accepted: &Accepted,
     node: u32,
     shown: u64,
-) -> Result<Drawing, OutOfMemory>
+) -> Result<Drawing, AllocError>
     requires accepted { (ops : List Operator) × (o : Choices) × (text : List ℕ) × IsAccepted ops o text accepted.now }
     requires node { node < length accepted.now.placed.nodes }
     ensures rows { (n : Node) (c : Clock) → slice_get accepted.now.placed.nodes node ≡ Some n →

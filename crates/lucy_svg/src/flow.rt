@@ -6,7 +6,6 @@ use crate::join::Joins;
 use crate::ones::{counts, ones};
 use lucy_clock::Numbers64;
 use lucy_picture::Fill;
-use lucy_word::OutOfMemory;
 use std::alloc::{AllocError, Global};
 
 /// How items go through a buffer at the instants that are shown: those that are written and read there, in order, and how many have been
@@ -27,7 +26,7 @@ fn push(flows: &mut Vec<Flow>, flow: Flow) -> Result<(), AllocError>
 }
 
 /// How items go through a buffer, on whichever words its marks are.
-pub fn flow_of(alloc: Global, fill: &Fill) -> Result<Flow, OutOfMemory>
+pub fn flow_of(alloc: Global, fill: &Fill) -> Result<Flow, AllocError>
     ensures { IfOk result (Follows fill.now) }
 {
     let written = fill.written.list();
@@ -52,7 +51,7 @@ pub(crate) fn fill_at(fills: &[Fill], number: usize) -> &Fill
 }
 
 /// Those of buffers, in order.
-pub(crate) fn flows(alloc: Global, fills: &[Fill]) -> Result<Vec<Flow>, OutOfMemory>
+pub(crate) fn flows(alloc: Global, fills: &[Fill]) -> Result<Vec<Flow>, AllocError>
     ensures { IfOk result (λ v. AllFollow fills.now v.items) }
 {
     let mut flows = Vec::new(alloc);

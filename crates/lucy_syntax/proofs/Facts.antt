@@ -44,11 +44,6 @@ pub match_to : {A N M : Type 0} {P Q : A → Type 0} (o : Option A) → MatchOpt
 match_to None h f g = f h
 match_to (Some a) h f g = g a h
 
--- a test that can't fail
-pub shown : (b : Bool) → (b ≡ false → ⊥) → b ≡ true
-shown true h = refl
-shown false h = absurd (h refl)
-
 pub pair_of : {A B : Type 0} {p : A × B} {a : A} {b : B} → p.0 ≡ a → p.1 ≡ b → p ≡ (a, b)
 pair_of {A = A} {B = B} {p = p} {a = a} {b = b} e f =
     let one : ◌≡◌ {A = A × B} (p.0, p.1) (a, p.1) = ap (λ (x : A). let q : A × B = (x, p.1) in q) e in

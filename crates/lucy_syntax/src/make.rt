@@ -14,7 +14,7 @@ use lucy_host::Op;
 use lucy_text::Text;
 use lucy_token::{Token, What};
 use lucy_tree::{Expr, Exprs, Lit, Name, Span};
-use lucy_word::{OutOfMemory, Word};
+use lucy_word::Word;
 use std::alloc::{AllocError, Global};
 
 /// The name that a token is.
@@ -29,7 +29,7 @@ pub(crate) fn name_of(alloc: Global, t: &Token) -> Result<Name, AllocError>
 }
 
 /// The word that a token is.
-pub(crate) fn word_of(alloc: Global, t: &Token) -> Result<Word, OutOfMemory>
+pub(crate) fn word_of(alloc: Global, t: &Token) -> Result<Word, AllocError>
     requires { kind_of t.now.what ≡ kind.Word }
     ensures { IfOk result (λ word. word ≡ token_word t.now.what) }
 {
@@ -40,7 +40,7 @@ pub(crate) fn word_of(alloc: Global, t: &Token) -> Result<Word, OutOfMemory>
 }
 
 // The word that a token is, if there is one.
-fn base_of(alloc: Global, base: Option<&Token>) -> Result<Option<Word>, OutOfMemory>
+fn base_of(alloc: Global, base: Option<&Token>) -> Result<Option<Word>, AllocError>
     requires { IfSome base (λ t. kind_of t.now.what ≡ kind.Word) }
     ensures { IfOk result (λ at. at ≡ base_word base.entry) }
 {

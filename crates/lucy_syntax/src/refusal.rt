@@ -21,11 +21,3 @@ impl<'a, 't> From<AllocError> for Refusal<'a, 't> {
         Refusal::OutOfMemory
     }
 }
-
-impl<'a, 't> From<lucy_word::OutOfMemory> for Refusal<'a, 't> {
-    ghost from_gives = { λ _ e. e ≡ OutOfMemory };
-
-    fn from(_: lucy_word::OutOfMemory) -> Self {
-        Refusal::OutOfMemory
-    }
-}

@@ -1,14 +1,13 @@
 -- Laws of how the call ends.
 use Rattle.std.proofs.Common.{ℕ, ◌≡◌, ◌⊎◌, List, [], ◌++◌, Ok, Err, refl, sym, subst, inl, inr, ◌∙◌}
 use Rattle.lucy_host.specs.Operators.{Operator, names_of}
-use Rattle.lucy_text.specs.Outside.{Writes}
 use Rattle.lucy_text.specs.Shelf.{SeenShelf}
 use Rattle.lucy_front.specs.Refusals.{memory_line}
 use Rattle.lucy_command.specs.Commands.{command_of}
 use Rattle.lucy_app.specs.World.{World}
-use Rattle.lucy_app.specs.Answers.{Answer, out_of_memory}
-use Rattle.lucy_app.specs.Ends.{Tells, Declines, Ends}
-use Rattle.lucy_lines.proofs.SinkLaws.{unwritten}
+use Rattle.lucy_app.specs.Answers.{out_of_memory}
+use Rattle.lucy_app.specs.Ends.{Tells, Ends}
+use Rattle.lucy_app.proofs.Sinks.{declines}
 use Rattle.lucy_tables.specs.Words.{TableWords, IsCut}
 use Rattle.lucy_tables.specs.Ends.{Begins, AreRefused, EndsTabled}
 use Rattle.lucy_tables.specs.Seen.{loading_answer}
@@ -16,14 +15,6 @@ use Rattle.lucy_tables.specs.declared.refusal.Refusal.{Refusal}
 use Rattle.lucy_tables.specs.declared.refusal.Refusal.TheVariants.{Words, ReadFault, BadNumber, Limit, OutOfMemory}
 use Rattle.lucy_tables.proofs.WordLaws.{one_cut, kept_refused, not_both}
 use Rattle.lucy_tables.proofs.LendingLaws.{or_memory}
-
--- nothing is called, and this is answered
-declines : (answer : Answer) (before after : World) (status : ℕ) → answer.out ≡ [] → after.shelf ≡ before.shelf → after.source ≡ before.source → after.out ≡ before.out →
-    Tells answer.status answer.err before.err after.err status → Declines answer before after status
-declines answer before after status none shelf source out told =
-    let printed : Writes before.out after.out answer.out =
-    subst (λ s. Writes before.out s answer.out) (sym out) (subst (λ bytes. Writes before.out before.out bytes) (sym none) (unwritten before.out)) in
-    (shelf, source, record { printed = printed; told = told })
 
 -- a refusal prints nothing
 refused_nothing : (e : Refusal) → (loading_answer e).out ≡ []

@@ -9,7 +9,7 @@ ghost use Rattle.lucy_tables.specs.declared.refusal.Refusal.TheVariants.{OutOfMe
 use lucy_app::{explain, tell};
 use lucy_front::refusal_text;
 use lucy_text::Sink;
-use lucy_word::{Limit, OutOfMemory};
+use lucy_word::Limit;
 use std::alloc::{AllocError, Global};
 
 /// Why words are refused for their tables, or for the files of these.
@@ -28,7 +28,7 @@ pub(crate) enum Refusal<'a> {
 }
 
 // The line of a field that is no number.
-fn number_line(alloc: Global, name: &str, place: u64) -> Result<Vec<u8>, OutOfMemory>
+fn number_line(alloc: Global, name: &str, place: u64) -> Result<Vec<u8>, AllocError>
     ensures { IfOk result (λ v. v.items ≡ number_line name.now place) }
 {
     Ok(format!(in alloc; "lucy: table {name}: bad number at {place}\n")?.into_bytes())

@@ -10,7 +10,7 @@ use Rattle.lucy_need.specs.Meeting.{Assignment, alone, assigned}
 use Rattle.lucy_need.specs.Stored.{HasWords}
 use Rattle.lucy_need.specs.declared.need.Need.TheVariants.{Adapt}
 use Rattle.lucy_need.specs.declared.need.Needs.{Needs}
-use Rattle.lucy_solve.specs.System.{System, IsEarliest}
+use Rattle.lucy_solve.specs.System.{DifferenceSystem, IsEarliest}
 use Rattle.lucy_shape.specs.declared.shape.Shape.{Shape}
 use Rattle.lucy_shape.specs.Index.{index_of}
 use Rattle.lucy_shape.specs.Fitting.{IsShapeFor, IsFitting, ArePositions}
@@ -19,14 +19,13 @@ use Rattle.lucy_shape.specs.Sized.{sized_system}
 use Rattle.lucy_shape.specs.Writing.{AreWordsOf, HasLongWord}
 use Rattle.lucy_shape.proofs.Earlier.{earlier_law}
 use Rattle.lucy_shape.proofs.Fitting.{positions_law}
-use Rattle.lucy_shape.proofs.Places.{index_always}
 use Rattle.lucy_shape.proofs.SizeLaws.{sized_law, fits_within, solves_table}
 use Rattle.lucy_shape.proofs.Systems.{solves_front}
 use Rattle.lucy_shape.proofs.Writings.{words_law}
 use Rattle.lucy_rates.specs.Vectors.{IsShapeOf}
 use Rattle.lucy_inference.specs.Inference.{HasLongClock}
 use Rattle.lucy_inference.specs.Stages.{AreAllUsed}
-use Rattle.lucy_inference.proofs.AtEarliest.{long_from, long_to}
+use Rattle.lucy_inference.proofs.AtEarliest.{long_from, long_to, base_at}
 use Rattle.lucy_tight.specs.declared.answer.TightError.{TightError}
 use Rattle.lucy_tight.specs.declared.answer.TightError.TheVariants.{Fixed, Limit as LimitPassed, OutOfMemory}
 use Rattle.lucy_tight.specs.Least.{IsLeast, IsEarliestAtLeast, IsTightest, RefusesTightest}
@@ -38,11 +37,6 @@ pub all_used : (needs : Needs) (scale lead : ℕ) (shape : Shape) → IsShapeOf 
 all_used needs scale lead shape is clock some inside =
     let within : clock < needs.clocks = subst (λ n. clock < n) is.wide.clocks inside in
     (inside, (is.wide.used clock within).1 (within, inl some))
-
--- the base has the same places in all assignments that fit
-base_at : (shape : Shape) (v w : Assignment) (number : ℕ) → IsFitting shape v → IsFitting shape w → 0 < length shape.clocks → index_of (v 0) number ≡ index_of (w 0) number
-base_at shape v w number first second some =
-    index_always (v 0) first.base (first.words 0 some) number ∙ sym (index_always (w 0) second.base (second.words 0 some) number)
 
 module _ (needs : Needs) (shape : Shape) (from to : ℕ) (words : AllByRecursion HasWords needs.list) (carries : IsShapeFor needs shape)
     (has : Contains needs.list (Adapt (alone from) (alone to))) (used : AreAllUsed shape) where
@@ -86,7 +80,7 @@ module _ (needs : Needs) (shape : Shape) (from to : ℕ) (words : AllByRecursion
   short_at least xs ws at are short long =
       short (long_to shape (assigned ws) xs carries.laid (words_law shape xs ws carries.laid (solved least xs at) are).1 long)
 
-  pub tightest_from : (least : ℕ) (ws : List Bits) (d : System) (cycle : List ℕ) → IsTightest needs shape from to least ws d cycle → AreTight needs shape from to least ws d cycle
+  pub tightest_from : (least : ℕ) (ws : List Bits) (d : DifferenceSystem) (cycle : List ℕ) → IsTightest needs shape from to least ws d cycle → AreTight needs shape from to least ws d cycle
   tightest_from least ws d cycle is = record {
     few = is.at.few;
     are = words_at least is.positions ws is.at is.answered.each;

@@ -7,7 +7,6 @@ use Rattle.std.proofs.lemmas.List.{get_or_default, length_push}
 use Rattle.std.proofs.lemmas.List.Elements.{Contains-append_left, Contains-append_right}
 use Rattle.std.proofs.lemmas.Option.{same_Some, slice_get-get_or}
 use Rattle.lucy_place.specs.declared.entry.PlaceEntry.{PlaceEntry}
-use Rattle.lucy_place.specs.declared.entry.PlaceKind.{PlaceKind}
 use Rattle.lucy_place.specs.declared.entry.PlaceKind.TheVariants.{Buffer}
 use Rattle.lucy_place.specs.declared.placed.PlacedNode.{PlacedNode}
 use Rattle.lucy_place.specs.Standing.{Stands}
@@ -18,14 +17,11 @@ use Rattle.lucy_need.specs.declared.need.Need.TheVariants.{Adapt}
 use Rattle.lucy_word.specs.Bits.{Bits}
 use Rattle.lucy_word.specs.Always.{always}
 use Rattle.lucy_word.specs.Adaptable.{IsAdaptable, IsSize}
+use Rattle.lucy_place.proofs.NodeLaws.{stands_one}
 use Rattle.lucy_need.specs.Meeting.{Assignment, alone, assigned}
 use Rattle.lucy_clock.specs.declared.signature.Signature.{Signature}
 use Rattle.lucy_program.specs.Report.{first_operand}
 use Rattle.lucy_clock.specs.Listing.{word_needs, kind_needs, place_needs, needs_from, needs_of}
-
--- what stands at a place is one thing
-pub stands_one : (n : PlacedNode) (p : ℕ) (kind other : PlaceKind) → Stands n p kind → Stands n p other → kind ≡ other
-stands_one n p kind other s t = sym s.2 ∙ ap (λ (e : PlaceEntry). e.kind) (same_Some s.0 t.0 (sym s.1 ∙ t.1)) ∙ t.2
 
 pub operand_one : (n : PlacedNode) (p k e j f : ℕ) → Stands n p (Buffer k e) → Stands n p (Buffer j f) → e ≡ f
 operand_one n p k e j f s t = let h = stands_one n p (Buffer k e) (Buffer j f) s t in cc h

@@ -9,7 +9,7 @@ use Rattle.lucy_word.specs.declared.limit.Limit.{Limit}
 use Rattle.lucy_word.proofs.ShortLaws.{short_form_one}
 use Rattle.lucy_need.specs.Meeting.{assigned, word_bits}
 use Rattle.lucy_need.specs.declared.need.Needs.{Needs}
-use Rattle.lucy_solve.specs.System.{System, IsEarliest}
+use Rattle.lucy_solve.specs.System.{DifferenceSystem, IsEarliest}
 use Rattle.lucy_shape.specs.declared.shape.Shape.{Shape}
 use Rattle.lucy_shape.specs.declared.shape.RateFault.TheVariants as fault
 use Rattle.lucy_shape.specs.Fitting.{clock_at}
@@ -22,7 +22,7 @@ use Rattle.lucy_tight.specs.Least.{IsEarliestAtLeast, RefusesTightest}
 use Rattle.lucy_tight.proofs.SizeLaws.{least_one}
 
 -- a system has one earliest solution
-earliest_one : (s : System) (xs ys : List ℤ) → IsEarliest s xs → IsEarliest s ys → xs ≡ ys
+earliest_one : (s : DifferenceSystem) (xs ys : List ℤ) → IsEarliest s xs → IsEarliest s ys → xs ≡ ys
 earliest_one s xs ys first second =
     ext_get_or (pos 0) xs ys (first.solves.size ∙ sym second.solves.size) (λ v l.
     let a = first.least ys second.solves v in

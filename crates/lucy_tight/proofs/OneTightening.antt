@@ -5,11 +5,11 @@ use Rattle.std.proofs.lemmas.List.{ext_get_or}
 use Rattle.std.proofs.lemmas.Option.{same_Some, slice_get-get_or}
 use Rattle.lucy_host.specs.Operators.{Operator}
 use Rattle.lucy_word.specs.Bits.{Bits}
+use Rattle.lucy_host.proofs.Elements.{get_there}
 use Rattle.lucy_place.specs.declared.entry.PlaceKind.TheVariants.{Buffer}
 use Rattle.lucy_place.specs.declared.placed.PlacedNode.{PlacedNode}
 use Rattle.lucy_place.specs.Standing.{at_one, Stands}
 use Rattle.lucy_place.specs.WrittenNodes.{IsWritten}
-use Rattle.lucy_types.proofs.ListLaws.{get_there}
 use Rattle.lucy_need.specs.Meeting.{assigned}
 use Rattle.lucy_need.specs.declared.need.Needs.{Needs}
 use Rattle.lucy_check.proofs.OneVerdict.{one_size}

@@ -9,7 +9,7 @@ use Rattle.lucy_word.proofs.BitsLaws.{period_some}
 use Rattle.lucy_word.proofs.ShortLaws.{shortest_one}
 use Rattle.lucy_need.specs.Meeting.{Assignment, assigned, word_bits}
 use Rattle.lucy_need.specs.declared.need.Needs.{Needs}
-use Rattle.lucy_solve.specs.System.{System}
+use Rattle.lucy_solve.specs.System.{DifferenceSystem}
 use Rattle.lucy_shape.specs.declared.shape.Shape.{Shape}
 use Rattle.lucy_shape.specs.Index.{index_of}
 use Rattle.lucy_shape.specs.Fitting.{clock_at}
@@ -53,14 +53,14 @@ module _ (needs : Needs) (shape : Shape) (from to : ℕ) (clocks : length shape.
       shortest_one (assigned xs c) (assigned ys c) short_x short_y (period_some (assigned xs c) is_x) (period_some (assigned ys c) is_y)
       (same_by_places (assigned xs c) (assigned ys c) is_x is_y (λ k. places_once one two (assigned xs) (assigned ys) first.tightest second.tightest c k within)))
 
-  pub alike : (l m : ℕ) (ws vs : List Bits) (d e : System) (xs ys : List ℕ) → AreTight needs shape from to l ws d xs → AreTight needs shape from to m vs e ys →
+  pub alike : (l m : ℕ) (ws vs : List Bits) (d e : DifferenceSystem) (xs ys : List ℕ) → AreTight needs shape from to l ws d xs → AreTight needs shape from to m vs e ys →
       (l ≡ m) × (ws ≡ vs) × (d ≡ e)
   alike l m ws vs d e xs ys first second =
       let same = least_once needs shape from to l m (assigned ws) (assigned vs) first.are.tightest second.are.tightest in
       (same, words_once l m ws vs first.are second.are, first.less ∙ ap (λ n. sized_system needs shape from to (n - 1)) same ∙ sym second.less)
 
   -- an answer passes no limit
-  pub kept : (l : ℕ) (ws : List Bits) (d : System) (xs : List ℕ) (e : TightError) → AreTight needs shape from to l ws d xs → PassesLimit needs shape from to e → ⊥
+  pub kept : (l : ℕ) (ws : List Bits) (d : DifferenceSystem) (xs : List ℕ) (e : TightError) → AreTight needs shape from to l ws d xs → PassesLimit needs shape from to e → ⊥
   kept l ws d xs OutOfMemory is passed = passed
   kept l ws d xs (Fixed size) is passed = passed
   kept l ws d xs (LimitPassed k) is (inl many) = is.few many.1

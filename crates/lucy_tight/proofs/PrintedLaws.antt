@@ -9,7 +9,6 @@ use Rattle.lucy_place.specs.declared.placed.PlacedNode.{PlacedNode}
 use Rattle.lucy_place.specs.Standing.{at_one, Stands}
 use Rattle.lucy_place.specs.Proper.{AreProper}
 use Rattle.lucy_place.specs.WrittenNodes.{IsWritten}
-use Rattle.lucy_types.proofs.ListLaws.{get_there}
 use Rattle.lucy_need.specs.Meeting.{Assignment, alone, assigned}
 use Rattle.lucy_need.specs.declared.need.Need.{Need}
 use Rattle.lucy_need.specs.declared.need.Need.TheVariants.{Adapt}
@@ -28,6 +27,7 @@ use Rattle.lucy_shape.specs.Sized.{MeetsWithin}
 use Rattle.lucy_word.specs.Bits.{most_bits}
 use Rattle.lucy_word.specs.Adaptable.{IsSize}
 use Rattle.lucy_word.specs.declared.limit.Limit.{Limit}
+use Rattle.lucy_host.proofs.Elements.{get_there}
 use Rattle.lucy_rates.specs.Vectors.{IsShapeOf}
 use Rattle.lucy_rates.proofs.OneShape.{one_shape}
 use Rattle.lucy_inference.specs.Inference.{AreInferredWords}

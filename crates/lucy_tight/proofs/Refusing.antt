@@ -1,6 +1,6 @@
 -- What goes out of a function that is refused.
 use Rattle.std.proofs.Common.{◌≡◌, ℕ, Result, inl, inr}
-use Rattle.std.specs.Prelude.{◌⊎◌, IfErr, MatchResult, IsErrAnd}
+use Rattle.std.specs.Prelude.{◌⊎◌, MatchResult, IsErrAnd}
 use Rattle.std.proofs.lemmas.Result.{err_from_is_err_and}
 use Rattle.lucy_need.specs.declared.need.Needs.{Needs}
 use Rattle.lucy_shape.specs.declared.shape.Shape.{Shape}
@@ -19,7 +19,3 @@ pub leaves_only : {T : Type 0} (P : T → Type 0) (needs : Needs) (shape : Shape
 leaves_only P needs shape from to e f r is i h =
     let p = err_from_is_err_and r i in
     rw (p.1, p.2) (refused_as needs shape from to e f is h)
-
--- a refusal that goes out is what it was
-pub leaves : {T : Type 0} (P : TightError → Type 0) (e : TightError) (r : Result T TightError) → IsErrAnd r (λ y. y ≡ e) → P e → IfErr r P
-leaves P e r i h = let p = err_from_is_err_and r i in rw (p.1, p.2) h

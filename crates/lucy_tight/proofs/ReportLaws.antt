@@ -6,7 +6,7 @@ use Rattle.std.proofs.lemmas.Option.{same_Some}
 use Rattle.lucy_place.specs.declared.placed.PlacedNode.{PlacedNode}
 use Rattle.lucy_clock.specs.Clocks.{clocks_of}
 use Rattle.lucy_need.specs.declared.need.Needs.{Needs}
-use Rattle.lucy_solve.specs.System.{System}
+use Rattle.lucy_solve.specs.System.{DifferenceSystem}
 use Rattle.lucy_shape.specs.Fitting.{variable_count}
 use Rattle.lucy_program.specs.declared.accepted.Accepted.{Accepted}
 use Rattle.lucy_program.specs.declared.options.Options.{Options}
@@ -35,7 +35,7 @@ module _ (a : Accepted) (o : Options) (node buffer : ℕ) (t : Least) (is : IsTi
 -- the cycle is of the inequalities
 pub told_variables : (a : Accepted) (o : Options) (node buffer : ℕ) (t : Least) → IsTightened a o node buffer t →
     t.diffs.count ≡ variable_count t.shape.clocks
-told_variables a o node buffer t is = ap (λ (s : System). s.count) is.tightest.less
+told_variables a o node buffer t is = ap (λ (s : DifferenceSystem). s.count) is.tightest.less
 
 pub told_there : (a : Accepted) (o : Options) (node buffer : ℕ) (t : Least) → IsTightened a o node buffer t →
     0 < t.least → AreBelow (length t.diffs.list) t.cycle.items
@@ -59,11 +59,3 @@ two s t a b c e f = f ∙ ap (λ x. x ++ t) e ∙ append_assoc a s t
 
 pub two_new : (s t a b c : List ℕ) → a ≡ [] → b ≡ a ++ s → c ≡ b ++ t → c ≡ s ++ t
 two_new s t a b c none e f = two s t a b c e f ∙ ap (λ x. x ++ (s ++ t)) none
-
--- five parts, each put behind those before it
-pub five : (s t u v w a b c d e f : List ℕ) →
-    b ≡ a ++ s → c ≡ b ++ t → d ≡ c ++ u → e ≡ d ++ v → f ≡ e ++ w → f ≡ a ++ (s ++ (t ++ (u ++ (v ++ w))))
-five s t u v w a b c d e f g h i j k =
-    let last = two v w d e f j k in
-    let more = two u (v ++ w) c d f i last in
-    two s (t ++ (u ++ (v ++ w))) a b f g (two t (u ++ (v ++ w)) b c f h more)

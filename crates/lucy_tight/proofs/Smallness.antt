@@ -1,5 +1,5 @@
 -- Between two clocks whose words aren't written with too many bits no more than 2^20 items wait.
-use Rattle.std.proofs.Common.{◌≡◌, ℕ, ◌+◌, ◌-◌, ◌*◌, ◌/◌, ◌<◌, ◌≤◌, inl, inr, sym, ap, ◌∙◌, subst, arith, List}
+use Rattle.std.proofs.Common.{◌≡◌, ℕ, ◌+◌, ◌-◌, ◌<◌, ◌≤◌, inl, inr, sym, ap, ◌∙◌, subst, arith}
 use Rattle.std.specs.List.{Contains}
 use Rattle.std.proofs.lemmas.Bool.{cases_lt}
 use Rattle.lucy_word.specs.Bits.{Bits, IsWord, ones_to, most_bits}
@@ -11,12 +11,12 @@ use Rattle.lucy_need.specs.declared.need.Needs.{Needs}
 use Rattle.lucy_shape.specs.declared.shape.ClockShape.{ClockShape}
 use Rattle.lucy_shape.specs.declared.shape.Shape.{Shape}
 use Rattle.lucy_shape.specs.Index.{index_of, Recurs}
-use Rattle.lucy_shape.specs.Fitting.{clock_at, turn_instances, IsShapeFor, IsFitting}
+use Rattle.lucy_shape.specs.Fitting.{clock_at, IsShapeFor, IsFitting}
 use Rattle.lucy_shape.specs.Sized.{HasSizeWithin}
 use Rattle.lucy_shape.proofs.Bases.{placed}
 use Rattle.lucy_shape.proofs.Indexes.{decided}
 use Rattle.lucy_shape.proofs.Places.{index_rises, index_some}
-use Rattle.lucy_shape.proofs.SizeLaws.{carried_at}
+use Rattle.lucy_shape.proofs.SizeLaws.{carried_at, alone_turn}
 use Rattle.lucy_shape.proofs.WordIndex.{word_index}
 use Rattle.lucy_inference.specs.Inference.{HasLongClock, written_bits}
 
@@ -47,13 +47,6 @@ close a b size of_a of_b h i = elim (cases_lt size (ones_to a i)) [
       let e = (word_index b of_b).there k i (omega arith) in
       omega arith
 ]
-
--- a clock alone has its ones as instances
-alone_turn : (clocks : List ClockShape) (c : ℕ) → turn_instances clocks (alone c) ≡ (clock_at clocks c).ones
-alone_turn clocks c = whole ((clock_at clocks c).ones)
-  where
-    whole : (n : ℕ) → n * 1 / 1 ≡ n
-    whole n = omega arith
 
 module _ (needs : Needs) (shape : Shape) (w : Assignment) (from to : ℕ) (is : IsShapeFor needs shape) (fitting : IsFitting shape w) (has : Contains needs.list (Adapt (alone from) (alone to)))
     (short : HasLongClock shape w → ⊥) where

@@ -4,7 +4,7 @@ use Rattle.std.specs.Prelude.{ℕ, ◌-◌, ◌<◌, ◌≡◌, ◌⊎◌, List,
 use Rattle.lucy_word.specs.declared.limit.Limit.TheVariants as limit
 use Rattle.lucy_word.specs.Bits.{Bits}
 use Rattle.lucy_need.specs.declared.need.Needs.{Needs}
-use Rattle.lucy_solve.specs.System.{System, Solves, HasNoSolution, IsEarliest, IsNegativeCycle, most_inequalities}
+use Rattle.lucy_solve.specs.System.{DifferenceSystem, Solves, HasNoSolution, IsEarliest, IsNegativeCycle, most_inequalities}
 use Rattle.lucy_shape.specs.declared.shape.Shape.{Shape}
 use Rattle.lucy_shape.specs.declared.shape.RateFault.TheVariants as fault
 use Rattle.lucy_shape.specs.Writing.{AreAnswered, AreRefused}
@@ -29,7 +29,7 @@ pub record IsEarliestAtLeast (needs : Needs) (shape : Shape) (from to least : �
 
 -- the least size, the words of the earliest solution for it, and a negative cycle of the inequalities for one less: for size 0 those
 -- for 0, and no cycle
-pub record IsTightest (needs : Needs) (shape : Shape) (from to least : ℕ) (words : List Bits) (diffs : System) (cycle : List ℕ) : Type 0 where
+pub record IsTightest (needs : Needs) (shape : Shape) (from to least : ℕ) (words : List Bits) (diffs : DifferenceSystem) (cycle : List ℕ) : Type 0 where
   pub positions : List ℤ
   pub at : IsEarliestAtLeast needs shape from to least positions
   pub answered : AreAnswered shape positions words

@@ -13,7 +13,7 @@ use Rattle.lucy_need.specs.Meeting.{Assignment, assigned, word_bits}
 use Rattle.lucy_need.specs.declared.need.Needs.{Needs}
 use Rattle.lucy_clock.specs.declared.node_clock.NodeClock.{NodeClock}
 use Rattle.lucy_clock.specs.NodeClocks.{signatures, AreSizes}
-use Rattle.lucy_solve.specs.System.{System, IsNegativeCycle}
+use Rattle.lucy_solve.specs.System.{DifferenceSystem, IsNegativeCycle}
 use Rattle.lucy_shape.specs.declared.shape.Shape.{Shape}
 use Rattle.lucy_shape.specs.Index.{index_of}
 use Rattle.lucy_shape.specs.Sized.{HasSizeWithin, sized_system}
@@ -64,7 +64,7 @@ pub record AreTightestWords (needs : Needs) (shape : Shape) (from to least : ℕ
   pub tightest : IsTightestAssignment needs shape from to least (assigned words)
 
 -- the tightest words, within all limits, with the inequalities of one less and a negative cycle of them: for size 0 those for 0, and no cycle
-pub record AreTight (needs : Needs) (shape : Shape) (from to least : ℕ) (words : List Bits) (diffs : System) (cycle : List ℕ) : Type 0 where
+pub record AreTight (needs : Needs) (shape : Shape) (from to least : ℕ) (words : List Bits) (diffs : DifferenceSystem) (cycle : List ℕ) : Type 0 where
   pub few : HasTooManyInequalities needs shape from to → ⊥
   pub are : AreTightestWords needs shape from to least words
   pub short : HasLongClock shape (assigned words) → ⊥

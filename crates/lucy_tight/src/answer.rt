@@ -4,6 +4,7 @@ use lucy_need::Needs;
 use lucy_shape::Shape;
 use lucy_solve::Diffs;
 use lucy_word::{Limit, Word};
+use std::alloc::AllocError;
 
 /// The least size of one buffer of a node, the clocks of the node that have it, and why one less is too small.
 #[derive(Drop)]
@@ -49,24 +50,13 @@ pub enum TightError {
     OutOfMemory,
 }
 
-impl From<lucy_word::OutOfMemory> for TightError {
+impl From<AllocError> for TightError {
     ghost use Rattle.std.specs.Prelude.{◌≡◌};
     ghost use Rattle.lucy_tight.specs.declared.answer.TightError.TheVariants.{OutOfMemory};
 
     ghost from_gives = { λ _ e. e ≡ OutOfMemory };
 
-    fn from(_: lucy_word::OutOfMemory) -> Self {
-        TightError::OutOfMemory
-    }
-}
-
-impl From<lucy_solve::OutOfMemory> for TightError {
-    ghost use Rattle.std.specs.Prelude.{◌≡◌};
-    ghost use Rattle.lucy_tight.specs.declared.answer.TightError.TheVariants.{OutOfMemory};
-
-    ghost from_gives = { λ _ e. e ≡ OutOfMemory };
-
-    fn from(_: lucy_solve::OutOfMemory) -> Self {
+    fn from(_: AllocError) -> Self {
         TightError::OutOfMemory
     }
 }

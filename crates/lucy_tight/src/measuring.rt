@@ -11,7 +11,7 @@ use lucy_check::{Verdict, adapt};
 use lucy_clock::{NodeClock, Numbers64, Words};
 use lucy_place::PlacedNode;
 use lucy_program::first_operand;
-use lucy_word::{OutOfMemory, Word};
+use lucy_word::Word;
 use std::alloc::{AllocError, Global};
 
 // One more size.
@@ -54,7 +54,7 @@ pub(crate) fn clocks_at(
     alloc: Global,
     node: &PlacedNode,
     words: Vec<Word>,
-) -> Result<NodeClock, OutOfMemory>
+) -> Result<NodeClock, AllocError>
     requires numbered { (k p : ℕ) → at_one node.now.buffers k ≡ Some p → (e : ℕ) × Stands node.now p (Buffer k e) }
     requires words { AreAdaptable node.now words.items }
     ensures words { IfOk result (λ c. c.words ≡ words.items) }

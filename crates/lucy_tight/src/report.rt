@@ -14,11 +14,10 @@ use crate::Least;
 use lucy_front::cycle_text;
 use lucy_place::PlacedNode;
 use lucy_program::{Accepted, report_node};
-use lucy_word::OutOfMemory;
-use std::alloc::Global;
+use std::alloc::{AllocError, Global};
 
 // Puts these bytes last.
-fn bytes(bytes: &[u8], out: &mut Vec<u8>) -> Result<(), OutOfMemory>
+fn bytes(bytes: &[u8], out: &mut Vec<u8>) -> Result<(), AllocError>
     ensures { OnOk result (out.new.items ≡ out.old.items ++ bytes.now) }
 {
     out.extend_from_slice(bytes)?;
@@ -26,7 +25,7 @@ fn bytes(bytes: &[u8], out: &mut Vec<u8>) -> Result<(), OutOfMemory>
 }
 
 // Puts a number last, in decimal.
-fn number(alloc: Global, number: u64, out: &mut Vec<u8>) -> Result<(), OutOfMemory>
+fn number(alloc: Global, number: u64, out: &mut Vec<u8>) -> Result<(), AllocError>
     ensures { OnOk result (out.new.items ≡ out.old.items ++ decimal number) }
 {
     bytes(format!(in alloc; "{number}")?.as_bytes(), out)
@@ -39,7 +38,7 @@ fn put_size(
     buffer: u32,
     size: u64,
     out: &mut Vec<u8>,
-) -> Result<(), OutOfMemory>
+) -> Result<(), AllocError>
     ensures { OnOk result (out.new.items ≡ out.old.items ++ spec.size_text node.now buffer size) }
 {
     bytes(b"buffer ", out)?;
@@ -52,7 +51,7 @@ fn put_size(
 }
 
 // Puts the rest of the line last: the least size.
-fn put_least(alloc: Global, least: u64, out: &mut Vec<u8>) -> Result<(), OutOfMemory>
+fn put_least(alloc: Global, least: u64, out: &mut Vec<u8>) -> Result<(), AllocError>
     ensures { OnOk result (out.new.items ≡ out.old.items ++ (codes "least " ++ (decimal least ++ codes "\n"))) }
 {
     bytes(b"least ", out)?;
@@ -61,7 +60,7 @@ fn put_least(alloc: Global, least: u64, out: &mut Vec<u8>) -> Result<(), OutOfMe
 }
 
 // Puts a size that is too small last, with the period of the clocks.
-fn put_less(alloc: Global, less: u64, period: u64, out: &mut Vec<u8>) -> Result<(), OutOfMemory>
+fn put_less(alloc: Global, less: u64, period: u64, out: &mut Vec<u8>) -> Result<(), AllocError>
     ensures { OnOk result (out.new.items ≡ out.old.items
         ++ (codes "no size " ++ (decimal less ++ (codes " for period " ++ (decimal period ++ codes "\n"))))) }
 {
@@ -79,7 +78,7 @@ fn put_evidence(
     node: u32,
     tight: &Least,
     out: &mut Vec<u8>,
-) -> Result<(), OutOfMemory>
+) -> Result<(), AllocError>
     requires node { node < length accepted.now.placed.nodes }
     requires clocks { (n : Node) → slice_get accepted.now.placed.nodes node ≡ Some n → length tight.now.shape.clocks ≡ clocks_of n }
     requires variables { tight.now.diffs.count ≡ variable_count tight.now.shape.clocks }
@@ -108,7 +107,7 @@ pub fn report_tight(
     node: u32,
     buffer: u32,
     tight: &Least,
-) -> Result<Vec<u8>, OutOfMemory>
+) -> Result<Vec<u8>, AllocError>
     requires typed { IsTyped accepted.now.placed.nodes accepted.now.typed }
     requires node { node < length accepted.now.placed.nodes }
     requires tightened { (o : Choices) × IsTightened accepted.now o node buffer tight.now }
@@ -131,7 +130,7 @@ pub fn report_fixed(
     node: u32,
     buffer: u32,
     size: u64,
-) -> Result<Vec<u8>, OutOfMemory>
+) -> Result<Vec<u8>, AllocError>
     requires { node < length accepted.now.placed.nodes }
     ensures { IfOk result (λ v. v.items ≡ spec.fixed_lines accepted.now node buffer size) }
 {

@@ -6,7 +6,8 @@ use Rattle.lucy_token.specs.declared.mark.Mark.TheVariants as mark
 use Rattle.lucy_token.specs.declared.token.What.{What}
 use Rattle.lucy_token.specs.declared.token.What.TheVariants as what
 use Rattle.lucy_token.specs.declared.token.Token as token_type
-use Rattle.lucy_token.specs.Spelled.{text_of_what, Printed, whats_of, placed, is_keyword, apart}
+use Rattle.lucy_token.specs.Printed.{text_of_what, Printed, whats_of}
+use Rattle.lucy_token.specs.Spelled.{placed, is_keyword, apart}
 use Rattle.lucy_token.proofs.PrintFronts.{keyword_end_is}
 use Rattle.lucy_token.proofs.PrintEnds.{sign_ends}
 

@@ -1,7 +1,7 @@
 -- What stands at the front of a text where a word is due is told by the form alone.
 use Rattle.std.proofs.Common.{◌≡◌, ℕ, ◌+◌, ◌<◌, List, [], ◌∷◌, ◌++◌, length, take, Option, Some, None, refl, ap, sym, ◌∙◌, subst, arith, append_assoc, length-append}
 use Rattle.std.proofs.lemmas.List.{take_at}
-use Rattle.lucy_word.specs.Items.{Item, Form}
+use Rattle.lucy_word.specs.Items.{WordItem, WordForm}
 use Rattle.lucy_word.specs.Forms.{BeginsForm}
 use Rattle.lucy_word.specs.Partials.{At, item, digit, brace, count, Partial, going, whole, step, run, start}
 use Rattle.lucy_word.specs.Stages.{next}
@@ -20,7 +20,7 @@ one_further : (front : List ℕ) (c : ℕ) (more : List ℕ) (n : ℕ) → n ≡
 one_further front c more n e =
     ap (take (n + 1)) (sym (append_assoc front (c ∷ []) more)) ∙ take_at (front ++ c ∷ []) more (n + 1) (omega (arith, e, length-append front (c ∷ [])))
 
-not_ended : (n : ℕ) (b : Option (List Item)) (is : List Item) (at : At) → word_end n (stage_of (going b is at)) ≡ Bad n
+not_ended : (n : ℕ) (b : Option (List WordItem)) (is : List WordItem) (at : At) → word_end n (stage_of (going b is at)) ≡ Bad n
 not_ended n b is item = refl
 not_ended n b is (digit x) = refl
 not_ended n b is (brace x) = refl
@@ -36,7 +36,7 @@ unfolding Stops
 ends_so front rest (whole ps is) n e r stops =
     let a = ran (Some start) front (whole ps is) r start refl in
     let w = a.is (tt, tt) in
-    let f : Form = record { prefix = ps; period = is } in (
+    let f : WordForm = record { prefix = ps; period = is } in (
       refl,
       omega (arith, e, length-append front rest),
       f,

@@ -1,23 +1,28 @@
--- A text without counts means what it meant before there were any.
-use Rattle.std.proofs.Common.{◌≡◌, ℕ, ◌+◌, ◌-◌, ◌<◌, Bool, List, [], ◌∷◌, ◌++◌, length, map, take, drop, refl, ap, sym, ◌∙◌, subst, arith}
+-- A text without counts means what it meant before there were any, both ways.
+use Rattle.std.proofs.Common.{◌≡◌, ℕ, zero, suc, ◌+◌, ◌-◌, ◌<◌, ◌≤◌, Bool, List, [], ◌∷◌, ◌++◌, length, map, take, drop, refl, ap, sym, ◌∙◌, subst, arith}
 use Rattle.std.specs.Prelude.{pos}
 use Rattle.std.specs.List.{AllByRecursion}
 use Rattle.std.specs.Str.Parse.{signed_digits_value}
 use Rattle.std.proofs.lemmas.List.{drop-drop, length-map}
-use Rattle.lucy_word.specs.Bits.{Bits}
-use Rattle.lucy_word.specs.Items.{Item, alone, counted, digit_of, items_text, items_bits, Form, form_text, form_bits, IsForm}
+use Rattle.lucy_word.specs.Bits.{Bits, most_written}
+use Rattle.lucy_word.specs.Items.{WordItem, alone, counted, digit_of, items_text, items_bits, WordForm, form_text, form_bits, IsForm}
 use Rattle.lucy_word.specs.Forms.{BeginsForm}
 use Rattle.lucy_word.specs.Shortest.{IsShortForm}
+use Rattle.lucy_word.specs.Spelling.{Spells}
+use Rattle.lucy_word.specs.Reading.{IsReadable}
 use Rattle.lucy_token.specs.declared.token.Kind.{Kind}
 use Rattle.lucy_token.specs.declared.token.Kind.TheVariants as kind
 use Rattle.lucy_token.specs.declared.token.What.{What}
 use Rattle.lucy_token.specs.declared.token.What.TheVariants as what
 use Rattle.lucy_token.specs.declared.token.Token as token_type
+use Rattle.lucy_token.specs.declared.front.Front.{Front}
+use Rattle.lucy_token.specs.declared.front.Front.TheVariants.{Gap, Token, Bad}
 use Rattle.lucy_token.specs.declared.stop.Stop.{Stop}
 use Rattle.lucy_token.specs.Before.{nearest}
 use Rattle.lucy_token.specs.Contents.{Contains, unread}
 use Rattle.lucy_token.specs.Cuts.{Cuts, ends, gap, bad, passed, past_last, malformed, token}
-use Rattle.lucy_token.specs.Laws.{HasNoCount, AreDigitsOf, IsAsItStands}
+use Rattle.lucy_token.specs.Fronts.{IsWordFront}
+use Rattle.lucy_token.specs.Laws.{HasNoCount, AreDigitsOf, IsAsItStands, IsFormOf, BeginsDigits, IsDigitFront, bytes_telling, IsReadByDigits}
 
 -- bytes without a count have none in front, and none behind
 no_count_in_front : (xs ys : List ℕ) → HasNoCount (xs ++ ys) → HasNoCount xs
@@ -29,18 +34,18 @@ no_count_behind [] ys h = h
 no_count_behind (x ∷ xs) ys h = no_count_behind xs ys h.1
 
 -- items without a count are digits, one for each
-items_are : (is : List Item) → HasNoCount (items_text is) → items_text is ≡ map digit_of (items_bits is)
+items_are : (is : List WordItem) → HasNoCount (items_text is) → items_text is ≡ map digit_of (items_bits is)
 items_are [] none = refl
 items_are (alone b ∷ is) none = ap (λ u. digit_of b ∷ u) (items_are is none.1)
 items_are (counted b ds ∷ is) none = absurd (none.1.0 refl)
 
-some_bits : (is : List Item) → HasNoCount (items_text is) → 0 < length is → 0 < length (items_bits is)
+some_bits : (is : List WordItem) → HasNoCount (items_text is) → 0 < length is → 0 < length (items_bits is)
 some_bits [] none some = omega (arith, some)
 some_bits (alone b ∷ is) none some = omega arith
 some_bits (counted b ds ∷ is) none some = absurd (none.1.0 refl)
 
 -- so a form without a count is digits
-pub forms_are : (bytes : List ℕ) (f : Form) → HasNoCount bytes → IsForm f → bytes ≡ form_text f → AreDigitsOf (form_bits f) bytes
+pub forms_are : (bytes : List ℕ) (f : WordForm) → HasNoCount bytes → IsForm f → bytes ≡ form_text f → AreDigitsOf (form_bits f) bytes
 forms_are bytes f none is e =
     let all : HasNoCount (items_text f.prefix ++ 40 ∷ (items_text f.period ++ 41 ∷ [])) = subst HasNoCount e none in
     let front = no_count_in_front (items_text f.prefix) (40 ∷ (items_text f.period ++ 41 ∷ [])) all in
@@ -52,7 +57,7 @@ forms_are bytes f none is e =
     )
 
 -- the digits of items without their counts
-digit_alone : Item → Bool
+digit_alone : WordItem → Bool
 digit_alone (alone b) = b
 digit_alone (counted b ds) = b
 
@@ -79,7 +84,7 @@ no_lead t u (x ∷ bytes) rest none e =
     let first : x ≡ 123 = cc in
     absurd (none.0 first)
 
-lead_items : (is : List Item) (t u : List ℕ) → Leads t u → Leads (items_text is ++ t) (map digit_of (map digit_alone is) ++ u)
+lead_items : (is : List WordItem) (t u : List ℕ) → Leads t u → Leads (items_text is ++ t) (map digit_of (map digit_alone is) ++ u)
 unfolding digit_alone
 lead_items [] t u leads = leads
 lead_items (alone b ∷ is) t u leads = lead_further (digit_of b) _ _ (lead_items is t u leads)
@@ -99,6 +104,68 @@ begins_are bytes none (f, rest, is, e) =
       (omega (arith, is.nonempty, length-map f.period digit_alone), same),
     )
 
+-- so does a front of such bytes
+no_count_less : (n m : ℕ) (text : List ℕ) → n ≤ m → HasNoCount (take m text) → HasNoCount (take n text)
+no_count_less zero m text less none = tt
+no_count_less (suc n) zero text less none = absurd (omega (arith, less))
+no_count_less (suc n) (suc m) [] less none = tt
+no_count_less (suc n) (suc m) (c ∷ text) less none = (none.0, no_count_less n m text (omega (arith, less)) none.1)
+
+-- and back again, where digits spell their word
+abbrev pub DigitsSpell : Type 0
+DigitsSpell = (w : Bits) → 0 < length w.period → Spells (map digit_of w.prefix ++ 40 ∷ (map digit_of w.period ++ 41 ∷ [])) w
+
+-- a form of a word without a count is its digits
+pub form_is : (bytes : List ℕ) (v : Bits) → HasNoCount bytes → IsFormOf v bytes → AreDigitsOf v bytes
+form_is bytes v none (f, is, same, bits) =
+    subst (λ (d : Bits). AreDigitsOf d bytes) (sym bits) (forms_are bytes f none is same)
+
+-- bytes without a count that are read are so by digits
+pub read_is : (bytes : List ℕ) (w : Bits) → HasNoCount bytes → IsReadable bytes w → IsReadByDigits most_written bytes w
+read_is bytes w none (bits, spells, few, some, short) =
+    (bits, form_is bytes bits none (spells.form, spells.is_form, spells.shape, spells.bits), few, some, short)
+
+module _ (spell : DigitsSpell) where
+  -- digits of a word are a form of it
+  pub digits_form : (bytes : List ℕ) (v : Bits) → AreDigitsOf v bytes → IsFormOf v bytes
+  digits_form bytes v are =
+      let spells = spell v are.0 in
+      (spells.form, spells.is_form, are.1 ∙ spells.shape, spells.bits)
+
+  -- what begins digits begins a form
+  pub digits_begin : (bytes : List ℕ) → BeginsDigits bytes → BeginsForm bytes
+  digits_begin bytes (v, rest, are) =
+      let (f, is, same, bits) = digits_form (bytes ++ rest) v are in
+      (f, rest, is, same)
+
+  -- what stands where a word is due does so by digits
+  pub front_is : (text : List ℕ) (front : Front) → HasNoCount (bytes_telling text front) → IsWordFront text front → IsDigitFront text front
+  front_is text (Gap n) none h = h
+  front_is text (Token k n) none (word, within, f, is, same) = (word, within, form_bits f, forms_are (take n text) f none is same)
+  front_is text (Bad n) none (within, begins, whole, stops) = (
+    within,
+    begins_are (take n text) (no_count_less n (n + 1) text (omega arith) none) begins,
+    (λ v are. let (f, is, same, bits) = digits_form (take n text) v are in whole f is same),
+    (λ more further. stops more (digits_begin (take (n + 1) text) further)),
+  )
+
+  pub digits_front : (text : List ℕ) (front : Front) → HasNoCount (bytes_telling text front) → IsDigitFront text front → IsWordFront text front
+  digits_front text (Gap n) none h = h
+  digits_front text (Token k n) none (word, within, v, are) =
+      let (f, is, same, bits) = digits_form (take n text) v are in
+      (word, within, f, is, same)
+  digits_front text (Bad n) none (within, begins, whole, stops) = (
+    within,
+    digits_begin (take n text) begins,
+    (λ f is same. whole (form_bits f) (forms_are (take n text) f (no_count_less n (n + 1) text (omega arith) none) is same)),
+    (λ more further. stops more (begins_are (take (n + 1) text) none further)),
+  )
+
+  -- what is read by digits is read
+  pub digits_read : (most : ℕ) (bytes : List ℕ) (w : Bits) → most ≤ most_written → IsReadByDigits most bytes w → IsReadable bytes w
+  digits_read most bytes w within (digits, are, few, some, short) =
+      (digits, subst (λ (u : List ℕ). Spells u digits) (sym are.1) (spell digits are.0), omega (arith, few, within), some, short)
+
 -- a token past the last one is no word
 no_word : (k : Kind) (bytes : List ℕ) (w : Bits) → unread k bytes ≡ what.Word w → ⊥
 no_word (kind.Mark m) bytes w e = let bad : what.Mark m ≡ what.Word w = e in cc
@@ -114,11 +181,10 @@ word_is before (kind.Mark m) bytes w v c e none = let bad : what.Mark m ≡ what
 word_is before kind.Name bytes w v c e none = let bad : what.Name bytes ≡ what.Word v = sym c.1 ∙ e in cc
 word_is before kind.Number bytes w v c e none = let bad : what.Number (signed_digits_value 10 bytes) ≡ what.Word v = sym c.1 ∙ e in cc
 word_is before kind.Word bytes w v (u, after, is) e none =
-    let (bits, spells, few, some, short) = after.0 in
+    let (digits, are, few, some, short) = read_is bytes u none after.0 in
     let same : what.Word u ≡ what.Word v = sym is ∙ e in
     let equal : u ≡ v = cc in
-    let are = forms_are bytes spells.form none spells.is_form spells.shape in
-    (bits, subst (λ (d : Bits). AreDigitsOf d bytes) (sym spells.bits) are, subst (IsShortForm bits) equal short)
+    (digits, are, subst (IsShortForm digits) equal short)
 word_is before kind.End bytes w v c e none = absurd c
 
 -- each word of a text is as it stands

@@ -16,7 +16,8 @@ use Rattle.lucy_token.specs.declared.token.What.{What}
 use Rattle.lucy_token.specs.declared.token.What.TheVariants as what
 use Rattle.lucy_token.specs.Fronts.{head, is_letter, is_name_byte}
 use Rattle.lucy_token.specs.Written.{IsNameText}
-use Rattle.lucy_token.specs.Spelled.{text_of_what, Printed, bytes_of, all_blank, none_of, is_keyword, mark_ends, ends_before, runs_on, is_minus, apart, apart_from, IsSpelled}
+use Rattle.lucy_token.specs.Printed.{text_of_what, Printed, bytes_of}
+use Rattle.lucy_token.specs.Spelled.{all_blank, none_of, is_keyword, mark_ends, ends_before, runs_on, is_minus, apart, apart_from, IsSpelled}
 use Rattle.lucy_token.proofs.PrintFronts.{letter_high, low_no_letter, decimal_range, first_decimal, keyword_end_is, head_spelling}
 
 -- a byte that no sign goes on with, and that is no digit or stands behind no minus

@@ -30,7 +30,8 @@ use Rattle.lucy_token.specs.Fronts.{head, is_name_byte, begins_gap, gap_of, clos
 use Rattle.lucy_token.specs.Scans.{word_front, scanned_front, Scans, ends, gap, token}
 use Rattle.lucy_token.specs.Contents.{Contains}
 use Rattle.lucy_token.specs.Cuts.{token_at}
-use Rattle.lucy_token.specs.Spelled.{text_of_what, Printed, bytes_of, whats_of, placed, all_blank, ends_before, are_apart, apart_from, IsSpelled, MayStandHere, AllStand, PrintsBehind}
+use Rattle.lucy_token.specs.Printed.{text_of_what, Printed, bytes_of, whats_of}
+use Rattle.lucy_token.specs.Spelled.{placed, all_blank, ends_before, are_apart, apart_from, IsSpelled, MayStandHere, AllStand, PrintsBehind}
 use Rattle.lucy_token.proofs.PrintFronts.{no_gap, mark_no_gap, mark_front, digits_front, minus_front, digits_no_gap, name_text_front, name_no_gap}
 use Rattle.lucy_token.proofs.WordFronts.{form_no_gap, form_front}
 use Rattle.lucy_token.proofs.PrintEnds.{next_ends, blanks_end}

@@ -14,7 +14,8 @@ use Rattle.lucy_token.specs.Before.{nearest, limit_at, is_entry_past, wants_word
 use Rattle.lucy_token.specs.Fronts.{is_name_byte}
 use Rattle.lucy_token.specs.Written.{IsNameText}
 use Rattle.lucy_token.specs.Cuts.{Cuts}
-use Rattle.lucy_token.specs.Spelled.{Printed, bytes_of, placed, is_word, is_negative, IsSpelled, MayStandHere, PrintsBehind}
+use Rattle.lucy_token.specs.Printed.{Printed, bytes_of}
+use Rattle.lucy_token.specs.Spelled.{placed, is_word, is_negative, IsSpelled, MayStandHere, PrintsBehind}
 use Rattle.lucy_token.proofs.PrintLaws.{cut_printed}
 
 spaced : What → Printed

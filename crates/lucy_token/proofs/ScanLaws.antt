@@ -4,7 +4,7 @@ use Rattle.std.proofs.lemmas.Bool.{cases_lt}
 use Rattle.std.proofs.lemmas.List.{append-nil, take-append-drop, take-take, length-take-le}
 use Rattle.lucy_word.specs.declared.limit.Limit.TheVariants as limit
 use Rattle.lucy_word.specs.Limits.{limit_number}
-use Rattle.lucy_word.specs.Items.{Form, form_text, IsForm}
+use Rattle.lucy_word.specs.Items.{WordForm, form_text, IsForm}
 use Rattle.lucy_word.specs.Forms.{BeginsForm}
 use Rattle.lucy_word.specs.Partials.{whole, run, start}
 use Rattle.lucy_word.proofs.PartialLaws.{run_append, form_runs, begins_read}
@@ -36,7 +36,7 @@ begins_shorter text m n h b =
     (b.0, drop m (take n text) ++ b.1, b.2, sym (append_assoc (take m text) (drop m (take n text)) b.1) ∙ ap (λ u. u ++ b.1) split ∙ b.3)
 
 -- nothing behind a whole form goes on with it
-whole_ends : (text : List ℕ) (n m : ℕ) (f : Form) → IsForm f → take n text ≡ form_text f → n < m → m ≤ length text → BeginsForm (take m text) → ⊥
+whole_ends : (text : List ℕ) (n m : ℕ) (f : WordForm) → IsForm f → take n text ≡ form_text f → n < m → m ≤ length text → BeginsForm (take m text) → ⊥
 whole_ends text n m f h is less within begins = by_rest (drop n (take m text)) refl
   where
     split : take n text ++ drop n (take m text) ≡ take m text
@@ -50,7 +50,7 @@ whole_ends text n m f h is less within begins = by_rest (drop n (take m text)) r
         ∙ run_append (Some start) (form_text f) (c ∷ more) ∙ ap (λ o. run o (c ∷ more)) (form_runs f h) in
         begins_read (take m text) begins read
 
-form_begins : (text : List ℕ) (n : ℕ) (f : Form) → IsForm f → take n text ≡ form_text f → BeginsForm (take n text)
+form_begins : (text : List ℕ) (n : ℕ) (f : WordForm) → IsForm f → take n text ≡ form_text f → BeginsForm (take n text)
 form_begins text n f h is = (f, [], h, append-nil (take n text) ∙ is)
 
 two_tokens : (text : List ℕ) (k j : Kind) (n m : ℕ) → IsWordFront text (Token k n) → IsWordFront text (Token j m) → n < m → ⊥

@@ -1,6 +1,6 @@
 -- The form of a word at the front of a text.
 use Rattle.std.proofs.Common.{◌≡◌, ℕ, suc, ◌+◌, ◌<◌, ◌≤◌, true, false, List, [], ◌∷◌, ◌++◌, length, Option, Some, None, refl, ap, sym, ◌∙◌, subst, arith}
-use Rattle.lucy_word.specs.Items.{Item, alone, counted, items_text, Form, form_text, IsForm}
+use Rattle.lucy_word.specs.Items.{WordItem, alone, counted, items_text, WordForm, form_text, IsForm}
 use Rattle.lucy_word.specs.declared.form.Stage.{Stage}
 use Rattle.lucy_word.specs.declared.form.Stage.TheVariants as stage
 use Rattle.lucy_word.specs.Stages.{begin, next, behind}
@@ -76,25 +76,25 @@ closes_from n s (c ∷ text) rest e = go (next s c) refl e (λ t f g. word_more 
     go None f g k = absurd (let no : None ≡ Some stage.Closed = g in cc)
     go (Some t) f g k = k t f g
 
-pub form_front : (f : Form) (rest : List ℕ) → IsForm f → word_front (form_text f ++ rest) ≡ Token kind.Word (length (form_text f))
+pub form_front : (f : WordForm) (rest : List ℕ) → IsForm f → word_front (form_text f ++ rest) ≡ Token kind.Word (length (form_text f))
 unfolding word_front
 form_front f rest h = closes_from 0 begin (form_text f) rest (form_closes f h) ∙ ap (λ m. Token kind.Word m) (let e : 0 + length (form_text f) ≡ length (form_text f) = omega arith in e)
 
 -- the first byte of a form is a digit or its `(`, behind which no comment opens
-pub form_head : (P : ℕ → Type 0) → P 48 → P 49 → P 40 → (f : Form) (rest : List ℕ) → P (head (form_text f ++ rest))
+pub form_head : (P : ℕ → Type 0) → P 48 → P 49 → P 40 → (f : WordForm) (rest : List ℕ) → P (head (form_text f ++ rest))
 form_head P at_zero at_one at_open f rest = go f.prefix
   where
-    go : (is : List Item) → P (head ((items_text is ++ 40 ∷ (items_text f.period ++ 41 ∷ [])) ++ rest))
+    go : (is : List WordItem) → P (head ((items_text is ++ 40 ∷ (items_text f.period ++ 41 ∷ [])) ++ rest))
     go [] = at_open
     go (alone true ∷ is) = at_one
     go (alone false ∷ is) = at_zero
     go (counted true ds ∷ is) = at_one
     go (counted false ds ∷ is) = at_zero
 
-pub form_no_gap : (f : Form) (rest : List ℕ) → 0 < length f.period → begins_gap (form_text f ++ rest) ≡ false
+pub form_no_gap : (f : WordForm) (rest : List ℕ) → 0 < length f.period → begins_gap (form_text f ++ rest) ≡ false
 form_no_gap f rest some = go f.prefix f.period some
   where
-    go : (is js : List Item) → 0 < length js → begins_gap ((items_text is ++ 40 ∷ (items_text js ++ 41 ∷ [])) ++ rest) ≡ false
+    go : (is js : List WordItem) → 0 < length js → begins_gap ((items_text is ++ 40 ∷ (items_text js ++ 41 ∷ [])) ++ rest) ≡ false
     go (alone true ∷ is) js h = refl
     go (alone false ∷ is) js h = refl
     go (counted true ds ∷ is) js h = refl

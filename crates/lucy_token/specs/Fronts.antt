@@ -3,7 +3,7 @@ use Rattle.std.specs.Prelude.{ℕ, ◌+◌, ◌≡◌, ◌≤◌, ◌<◌, Bool,
 use Rattle.std.specs.Option.{option_map_or}
 use Rattle.std.specs.List.{prefix_len}
 use Rattle.std.specs.Str.{bytes_eq}
-use Rattle.lucy_word.specs.Items.{Form, form_text, IsForm}
+use Rattle.lucy_word.specs.Items.{WordForm, form_text, IsForm}
 use Rattle.lucy_word.specs.Forms.{BeginsForm}
 use Rattle.lucy_word.specs.Stages.{is_decimal}
 use Rattle.lucy_fields.specs.Fields.{is_blank}
@@ -54,9 +54,9 @@ sign_in (m ∷ ms) text = if bytes_eq (take (length (spelling m)) text) (spellin
 -- a word stands there, its form whole, or the first byte that can't follow those before it in any form
 abbrev pub IsWordFront : List ℕ → Front → Type 0
 IsWordFront text (Gap n) = ⊥
-IsWordFront text (Token k n) = (k ≡ kind.Word) × (n ≤ length text) × (f : Form) × IsForm f × (take n text ≡ form_text f)
+IsWordFront text (Token k n) = (k ≡ kind.Word) × (n ≤ length text) × (f : WordForm) × IsForm f × (take n text ≡ form_text f)
 IsWordFront text (Bad n) =
-    (n ≤ length text) × BeginsForm (take n text) × ((f : Form) → IsForm f → take n text ≡ form_text f → ⊥) × (n < length text → BeginsForm (take (n + 1) text) → ⊥)
+    (n ≤ length text) × BeginsForm (take n text) × ((f : WordForm) → IsForm f → take n text ≡ form_text f → ⊥) × (n < length text → BeginsForm (take (n + 1) text) → ⊥)
 
 -- how many bytes before the digits belong to a number: one for a `-` directly before a digit, where an operand begins
 abbrev pub minus_of : Bool → List ℕ → ℕ

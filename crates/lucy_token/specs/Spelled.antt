@@ -1,6 +1,5 @@
--- Tokens in print: how they are spelled, and where no blank is needed between two of them.
-use Rattle.std.specs.Prelude.{ℕ, ◌+◌, ◌≡◌, Bool, true, false, not, ◌&&◌, ◌||◌, ◌==◌, if◌then◌else◌, List, [], ◌∷◌, ◌++◌, length, map, None, negsuc}
-use Rattle.std.specs.Fmt.{signed_decimal}
+-- Tokens in print: where they stand, where no blank is needed between two of them, and which may stand behind others.
+use Rattle.std.specs.Prelude.{ℕ, ◌+◌, ◌≡◌, Bool, true, false, not, ◌&&◌, ◌||◌, ◌==◌, if◌then◌else◌, List, [], ◌∷◌, length, None, negsuc}
 use Rattle.std.specs.Int.{w64}
 use mir.Val.{SFits as FitsSigned}
 use Rattle.lucy_word.specs.Spelling.{text_of}
@@ -18,32 +17,8 @@ use Rattle.lucy_token.specs.Before.{nearest, wants_word, operand_begins, limit_a
 use Rattle.lucy_token.specs.Fronts.{head, is_letter, is_name_byte}
 use Rattle.lucy_token.specs.Contents.{IsWordAfter}
 use Rattle.lucy_token.specs.Written.{IsNameText}
+use Rattle.lucy_token.specs.Printed.{Printed, text_of_what, whats_of}
 use Rattle.lucy_token.specs.Cuts.{token_at}
-
--- how a token is spelled
-abbrev pub text_of_what : What → List ℕ
-text_of_what (what.Mark m) = spelling m
-text_of_what (what.Name bytes) = bytes
-text_of_what (what.Number n) = signed_decimal n
-text_of_what (what.Word w) = text_of w
-
--- a token in print: the blanks before it, and what it is
-pub record Printed : Type 0 where
-  pub blanks : List ℕ
-  pub what : What
-
--- the token with these blanks before it
-abbrev pub in_print : List ℕ → What → Printed
-in_print blanks w = record { blanks = blanks; what = w }
-
--- the bytes of tokens in print, and behind them these
-abbrev pub bytes_of : List Printed → List ℕ → List ℕ
-bytes_of [] rest = rest
-bytes_of (p ∷ ps) rest = p.blanks ++ (text_of_what p.what ++ bytes_of ps rest)
-
--- what the tokens are
-abbrev pub whats_of : List Printed → List What
-whats_of ps = map (λ p. p.what) ps
 
 -- the tokens, where they stand from an offset on
 abbrev pub placed : ℕ → List Printed → List Token

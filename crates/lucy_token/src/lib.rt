@@ -2,7 +2,7 @@
 //!
 //! It stands on `lucy_word`, `lucy_host` and `lucy_tree`, and on `lucy_fields` for blanks. Begin with `Token` in `token.rt` and
 //! `tokens` in `scan.rt`, and with `specs/Cuts.antt`, which says what it is to cut a text into tokens. `specs/Written.antt` says
-//! what is known of the tokens of a text without a fault, and `specs/Spelled.antt` how tokens stand in print. `name.rt` tells
+//! what is known of the tokens of a text without a fault, and `specs/Printed.antt` how tokens are printed. `name.rt` tells
 //! whether bytes are a name.
 #![tactic(auto)]
 

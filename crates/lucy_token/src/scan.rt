@@ -1,5 +1,5 @@
 // A text cut into tokens.
-ghost use Rattle.std.specs.Prelude.{◌≡◌, ◌+◌, ◌<◌, ◌≤◌, List, [], ◌∷◌, ◌++◌, length, IfOk, OnOk};
+ghost use Rattle.std.specs.Prelude.{◌≡◌, ◌+◌, ◌<◌, ◌≤◌, List, [], length, IfOk};
 ghost use Rattle.lucy_word.specs.Limits.{limit_number};
 ghost use Rattle.lucy_token.specs.Contents as contents;
 ghost use Rattle.lucy_token.specs.declared.token.Kind as kind;
@@ -13,8 +13,8 @@ use crate::state::Context;
 use crate::stop::{Stop, SyntaxError};
 use crate::token::{Kind, Piece, Token, Tokens, What};
 use lucy_tree::Span;
-use lucy_word::{Limit, OutOfMemory};
-use std::alloc::Global;
+use lucy_word::Limit;
+use std::alloc::{AllocError, Global};
 
 // One step in the cutting of a text: so many bytes between tokens; a token, of a kind and so many bytes, after which it
 // goes on; one after which it stops, and why; or why it stops here.
@@ -66,16 +66,9 @@ fn next_step<'a>(context: &Context, text: &'a [u8], from: usize) -> Step<'a>
     }
 }
 
-fn add<'a>(list: &mut Vec<Token<'a>>, token: Token<'a>) -> Result<(), OutOfMemory>
-    ensures { OnOk result (list.new.items ≡ list.old.items ++ token.entry ∷ []) }
-{
-    list.push(token)?;
-    Ok(())
-}
-
 /// The tokens of a program text, which has at most 1,048,576 bytes, and why they stop: at the text's end, or at the first
 /// byte or token that can't stand where it stands.
-pub fn tokens<'a>(alloc: Global, text: &'a [u8]) -> Result<Tokens<'a>, OutOfMemory>
+pub fn tokens<'a>(alloc: Global, text: &'a [u8]) -> Result<Tokens<'a>, AllocError>
     requires { length text.now ≤ limit_number Limit.Text }
     ensures { IfOk result (λ t. Cuts 0 [] text.now t.list.items t.stop) }
 {
@@ -86,12 +79,12 @@ pub fn tokens<'a>(alloc: Global, text: &'a [u8]) -> Result<Tokens<'a>, OutOfMemo
         match next_step(&context, skip(text, from), from) {
             Step::Gap(n) => from += n,
             Step::Token(token, kind, n) => {
-                add(&mut list, token)?;
+                list.push(token)?;
                 context.pass(kind)?;
                 from += n;
             }
             Step::Last(token, error) => {
-                add(&mut list, token)?;
+                list.push(token)?;
                 return Ok(Tokens {
                     list,
                     stop: Stop::Fault(error),

@@ -7,7 +7,7 @@ use Rattle.lucy_stream.specs.Runs.{step, after}
 use Rattle.lucy_stream.specs.Totals.{total}
 use Rattle.lucy_stream.proofs.CountLaws.{step-same, step-other}
 use Rattle.lucy_stream.proofs.JoinedLaws.{after_joined}
-use Rattle.lucy_stream.proofs.TotalLaws.{after-times, total-same, total-step}
+use Rattle.lucy_stream.proofs.TotalLaws.{after-times, total-same, total-step, total_le}
 use Rattle.lucy_core.specs.Seen.{Seen, CanStep, CanRun, CanGoOn, HasDoneAtMost, after_picks, done_of, stepped}
 use Rattle.lucy_core.proofs.OpenLaws.{joined_picks}
 use Rattle.lucy_trace.specs.Catching.{IsAhead}
@@ -25,19 +25,12 @@ IsConfluent first = (picks other : List ℕ) → CanRun first picks → CanRun f
     (after_picks first picks ≡ after_picks first other) ⊎ CanGoOn (after_picks first picks) (after_picks first other).done
 
 -- sums of counts
-pub total_le : (n : ℕ) (f g : ℕ → ℕ) → ((a : ℕ) → f a ≤ g a) → total n f ≤ total n g
-total_le zero f g h = omega arith
-total_le (suc n) f g h = omega (arith, total_le n f g h, h n)
-
 total_lt : (n : ℕ) (f g : ℕ → ℕ) (a : ℕ) → ((b : ℕ) → f b ≤ g b) → a < n → f a < g a → total n f < total n g
 total_lt zero f g a h l less = absurd (omega arith)
 total_lt (suc n) f g a h l less = elim (cases_eq a n) [
   | inl e ↦ (let last : f n < g n = subst (λ (b : ℕ). f b < g b) e less in omega (arith, total_le n f g h))
   | inr ne ↦ omega (arith, total_lt n f g a h (omega arith) less, h n)
 ]
-
-pub total_more : (n : ℕ) (f : ℕ → ℕ) → total (n + 1) f ≡ total n f + f n
-total_more n f = (let e : n + 1 ≡ suc n = omega arith in ap (λ k. total k f) e)
 
 pub total_after : (n : ℕ) (d : ℕ → ℕ) (picks : List ℕ) → All (λ a. a < n) picks → total n (after d picks) ≡ total n d + length picks
 total_after n d [] all = omega arith

@@ -89,7 +89,3 @@ if_ok (Err e) P R Q p q then = tt
 pub on_ok : {T E : Type 0} (r : Result T E) (Q R : Type 0) → OnOk r Q → (Q → R) → OnOk r R
 on_ok (Ok v) Q R q then = then q
 on_ok (Err e) Q R q then = tt
-
-pub always_ok : {T E : Type 0} (r : Result T E) (Q : Type 0) → Q → OnOk r Q
-always_ok (Ok v) Q q = q
-always_ok (Err e) Q q = tt

@@ -1,29 +1,22 @@
 -- The lines of rounds are a log of their events.
-use Rattle.std.proofs.Common.{ℕ, ◌+◌, ◌-◌, ◌%◌, ◌<◌, ◌≤◌, ◌≡◌, ◌^◌, Bool, true, false, eqb, List, [], ◌∷◌, ◌++◌, map, length, get_or, take, Ok, Some, refl, ap, sym, ◌∙◌, subst, arith, append_assoc}
+use Rattle.std.proofs.Common.{ℕ, ◌+◌, ◌-◌, ◌%◌, ◌<◌, ◌≤◌, ◌≡◌, ◌^◌, true, false, eqb, List, [], ◌∷◌, ◌++◌, map, length, get_or, take, Ok, Some, refl, ap, sym, ◌∙◌, subst, arith, append_assoc}
 use Rattle.std.specs.Prelude.{All, ◌&&◌, nat_le, None, if◌then◌else◌, ok_or}
 use Rattle.std.specs.Fmt.{decimal}
 use Rattle.std.specs.List.{concat, join_with_byte}
 use Rattle.std.specs.Str.{all_ascii_digits}
 use Rattle.std.specs.Str.Parse.{digits_value}
-use Rattle.std.proofs.lemmas.Bool.{ne_eqb, le-leb}
+use Rattle.std.proofs.lemmas.Bool.{ne_eqb, le-leb, and_from}
 use Rattle.std.proofs.lemmas.Fmt.{decimal_by_steps, decimal_nonempty, digits_decimal, digits_value-decimal, length-decimal-le}
 use Rattle.std.proofs.lemmas.List.{take_more, length-take-le}
 use Rattle.std.proofs.lemmas.List.Elements.{All-nil, All-cons, All-head, All-tail, All-push}
-use Rattle.std.proofs.lemmas.Str.Parse.{IsNumeralModel, numerals_by_value, tells_all_ascii_digits}
 use Rattle.lucy_fields.specs.Fields.{is_blank, fields_from}
 use Rattle.lucy_fields.specs.Numbers.{number_of}
 use Rattle.lucy_fields.specs.Readings.{reading}
 use Rattle.lucy_fields.specs.Steps.{IsFull}
 use Rattle.lucy_fields.proofs.FieldLaws.{blank_passed, field_first, nothing_left}
+use Rattle.lucy_fields.proofs.NumberLaws.{numerals}
 use Rattle.lucy_trace.specs.Logs.{pick_of}
 use Rattle.lucy_trace.specs.Traces.{round_line, trace_text}
-
-own : IsNumeralModel (λ ds. all_ascii_digits ds ≡ true) (digits_value 10)
-own = numerals_by_value _ tells_all_ascii_digits
-
-both : (a b : Bool) → a ≡ true → b ≡ true → (a && b) ≡ true
-both true b e f = f
-both false b e f = e
 
 -- digits of a number that is neither too small nor too great
 number_is : (digits least most v : ℕ) (bytes : List ℕ) → 0 < length bytes → length bytes ≤ digits → all_ascii_digits bytes ≡ true → digits_value 10 bytes ≡ v → least ≤ v → v ≤ most →
@@ -32,14 +25,14 @@ number_is digits least most v [] some few digit value low high = absurd (omega a
 number_is digits least most v (b ∷ bytes) some few digit value low high =
     let is : ℕ = digits_value 10 (b ∷ bytes) in
     let test : (nat_le (length (b ∷ bytes)) digits && (all_ascii_digits (b ∷ bytes) && (nat_le least is && nat_le is most))) ≡ true =
-    both (nat_le (length (b ∷ bytes)) digits) _ (le-leb (length (b ∷ bytes)) digits few)
-    (both (all_ascii_digits (b ∷ bytes)) _ digit (both (nat_le least is) _ (le-leb least is (omega arith)) (le-leb is most (omega arith)))) in
+    and_from (nat_le (length (b ∷ bytes)) digits) _ (le-leb (length (b ∷ bytes)) digits few)
+    (and_from (all_ascii_digits (b ∷ bytes)) _ digit (and_from (nat_le least is) _ (le-leb least is (omega arith)) (le-leb is most (omega arith)))) in
     ap (λ t. if t then Some is else None) test ∙ ap Some value
 
 pick_decimal : (a : ℕ) → a < 2 ^ 32 → pick_of (decimal a) ≡ Some a
 pick_decimal a l =
     number_is 10 0 (2 ^ 32 - 1) a (decimal a) (decimal_nonempty a (omega arith)) (length-decimal-le 10 a (omega arith) (omega arith) (omega arith))
-    (digits_decimal own a (omega arith)) (digits_value-decimal own a (omega arith)) (omega arith) (omega arith)
+    (digits_decimal numerals a (omega arith)) (digits_value-decimal numerals a (omega arith)) (omega arith) (omega arith)
 
 -- no digit is a blank
 not_blank : (c : ℕ) → 47 < c → is_blank c ≡ false

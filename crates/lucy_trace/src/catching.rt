@@ -8,8 +8,7 @@ ghost use Rattle.lucy_trace.specs.Steps.{HasBeenLed, HasRoomForEvents, all_of};
 
 use lucy_core::Core;
 use lucy_host::Host;
-use lucy_word::OutOfMemory;
-use std::alloc::Global;
+use std::alloc::{AllocError, Global};
 
 // How many operations the actors have left until each has done its number. None where no memory has room for so many.
 fn left_until(core: &Core, counts: &[u64]) -> Option<usize>
@@ -27,7 +26,7 @@ fn left_until(core: &Core, counts: &[u64]) -> Option<usize>
 }
 
 // No event yet, and room for those until each actor has done its number.
-fn room_until(alloc: Global, core: &Core, counts: &[u64]) -> Result<Vec<u32>, OutOfMemory>
+fn room_until(alloc: Global, core: &Core, counts: &[u64]) -> Result<Vec<u32>, AllocError>
     requires count { length counts.now ≡ length core.now.net.actors }
     requires most { HasDoneAtMost core.now counts.now }
     ensures none { IfOk result (λ picks. picks.items ≡ []) }
@@ -35,7 +34,7 @@ fn room_until(alloc: Global, core: &Core, counts: &[u64]) -> Result<Vec<u32>, Ou
 {
     match left_until(core, counts) {
         Some(left) => Ok(Vec::with_capacity(alloc, left)?),
-        None => Err(OutOfMemory),
+        None => Err(AllocError),
     }
 }
 
@@ -148,7 +147,7 @@ pub fn catch_up<F: Fn(u32, i64, i64) -> i64 + Sync>(
     core: &mut Core,
     done: &[u64],
     host: &Host<F>,
-) -> Result<Vec<u32>, OutOfMemory>
+) -> Result<Vec<u32>, AllocError>
     requires serves { Serves F.pre F.post host.now }
     requires kinds { kinds_of (lent host.now) ≡ kinds_of core.old.operators }
     requires count { length done.now ≡ length core.old.net.actors }

@@ -13,8 +13,7 @@ use lucy_host::Host;
 use lucy_lines::OutputError;
 use lucy_runner::Runner;
 use lucy_text::{Sink, write_all};
-use lucy_word::OutOfMemory;
-use std::alloc::Global;
+use std::alloc::{AllocError, Global};
 
 // Behind so many events a round ends with the pass in which they were done. So a line stays short, whatever the run's length.
 const MOST_EVENTS: u64 = 65_536;
@@ -37,7 +36,7 @@ pub(crate) fn round<F: Fn(u32, i64, i64) -> i64 + Sync>(
     core: &mut Core,
     host: &Host<F>,
     counts: &mut [u64],
-) -> Result<Vec<u32>, OutOfMemory>
+) -> Result<Vec<u32>, AllocError>
     requires serves { Serves F.pre F.post host.now }
     requires kinds { kinds_of (lent host.now) ≡ kinds_of core.old.operators }
     requires runner_kinds { kinds_of (lent host.now) ≡ kinds_of runner.old.seen.operators }

@@ -3,7 +3,6 @@ ghost use Rattle.std.specs.Prelude.{◌≡◌, ◌++◌, ◌∷◌, [], true, fa
 ghost use Rattle.lucy_trace.specs.Traces.{round_line, TracesAreLogs};
 
 use itoa::Buffer;
-use lucy_word::OutOfMemory;
 use std::alloc::{AllocError, Global};
 
 // Puts an actor behind the others, and a space between.
@@ -26,7 +25,7 @@ fn end(line: &mut Vec<u8>) -> Result<(), AllocError>
 }
 
 /// The line of a round with these events: the numbers of their actors, parted by single spaces, and a line feed.
-pub fn line_of(alloc: Global, picks: &[u32]) -> Result<Vec<u8>, OutOfMemory>
+pub fn line_of(alloc: Global, picks: &[u32]) -> Result<Vec<u8>, AllocError>
     ensures { IfOk result (λ line. line.items ≡ round_line picks.now) }
 {
     let mut line = Vec::new(alloc);

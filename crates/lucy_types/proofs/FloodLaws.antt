@@ -3,19 +3,20 @@ use Rattle.std.proofs.Common.{ℕ, zero, suc, ◌+◌, ◌≡◌, ◌≤◌, ◌
 use Rattle.std.specs.Prelude.{true, false, is_some, slice_get, ◌⊎◌, ◌≢◌}
 use Rattle.std.proofs.lemmas.Bool.{cases_lt, cases_eq}
 use Rattle.std.proofs.lemmas.List.{length_push, get_or_default}
-use Rattle.std.proofs.lemmas.Option.{slice_get_within, same_Some}
+use Rattle.std.proofs.lemmas.Option.{slice_get_within, same_Some, none-some}
+use Rattle.lucy_host.proofs.Elements.{get_last}
 use Rattle.lucy_types.specs.declared.ty.Ty.{Ty}
 use Rattle.lucy_types.specs.declared.ty.Ty.TheVariants as ty
 use Rattle.lucy_types.specs.declared.graph.Graph.{Graph}
 use Rattle.lucy_types.specs.declared.flood.Flood.{Flood}
 use Rattle.lucy_types.specs.declared.flood.Reached.{Reached}
 use Rattle.lucy_types.specs.Flooding.{mark, reached, marked, IsNew, HasOrigin, IsFlood, Comes, Grows, HasGrown}
-use Rattle.lucy_types.proofs.ListLaws.{none_some, get_old, get_last, get_push}
+use Rattle.lucy_types.proofs.ListLaws.{get_old, get_push}
 
 pub marked_more : (marks : List (Option Ty)) (p : ℕ) (t : Ty) → p < length marks → get_or marks p None ≡ None → marked (set marks p (Some t)) ≡ marked marks + 1
 marked_more [] p t h e = absurd (omega arith)
 marked_more (None ∷ marks) zero t h e = refl
-marked_more (Some s ∷ marks) zero t h e = absurd (none_some s (sym e))
+marked_more (Some s ∷ marks) zero t h e = absurd (none-some s (sym e))
 marked_more (None ∷ marks) (suc p) t h e = marked_more marks p t (omega arith) e
 marked_more (Some s ∷ marks) (suc p) t h e = ap (λ n. n + 1) (marked_more marks p t (omega arith) e)
 
@@ -61,7 +62,7 @@ mark_other g p from t old new r q n = ap (λ ms. get_or ms q None) r.marks ∙ g
 
 mark_kept : (g : Graph) (p from : ℕ) (t : Ty) (old new : Flood) → Reaches g p from t old new → (q : ℕ) (s : Ty) → mark old q ≡ Some s → mark new q ≡ Some s
 mark_kept g p from t old new r q s e =
-    mark_other g p from t old new r q (λ h. none_some s (sym r.unmarked ∙ ap (mark old) (sym h) ∙ e)) ∙ e
+    mark_other g p from t old new r q (λ h. none-some s (sym r.unmarked ∙ ap (mark old) (sym h) ∙ e)) ∙ e
 
 mark_only : (g : Graph) (p from : ℕ) (t : Ty) (old new : Flood) → Reaches g p from t old new → (q : ℕ) (s : Ty) → mark new q ≡ Some s → (mark old q ≡ Some s) ⊎ ((q ≡ p) × (s ≡ t))
 mark_only g p from t old new r q s e =
@@ -194,7 +195,7 @@ grows_on t a b c g h = record {
     | inl u ↦ g.only p s u
     | inr u ↦ elim (was_reached (mark a p)) [
       | inl v ↦ inr (v, u.1)
-      | inr v ↦ absurd (none_some v.0 (sym u.0 ∙ g.kept p v.0 v.1))
+      | inr v ↦ absurd (none-some v.0 (sym u.0 ∙ g.kept p v.0 v.1))
     ]
   ];
   longer = let u : length a.queue.items ≤ length b.queue.items = g.longer in let v : length b.queue.items ≤ length c.queue.items = h.longer in omega arith;
@@ -219,5 +220,5 @@ pub grown_none : (g : Graph) (p : ℕ) (t : Ty) (f : Flood) → IsFlood g f → 
 grown_none g p t f h m s = record {
   flood = h;
   grows = grows_none t f;
-  reaches = elim m [ inl u ↦ absurd (none_some s.0 (sym u ∙ s.1)) | inr u ↦ u ];
+  reaches = elim m [ inl u ↦ absurd (none-some s.0 (sym u ∙ s.1)) | inr u ↦ u ];
 }

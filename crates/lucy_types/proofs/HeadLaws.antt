@@ -41,7 +41,8 @@ seats_kept most ports i seats heads h u l s = record {
   met = λ k n f. let d = u.met k n f in let b : n < i = d.0 in (omega arith, d.1);
 }
 
-same_open : (k l : ℕ) → ty.Open k ≡ ty.Open l → k ≡ l
+-- equal open types have one number
+pub same_open : (k l : ℕ) → ty.Open k ≡ ty.Open l → k ≡ l
 same_open k l e = cc
 
 -- one port more, the first of its class

@@ -3,34 +3,15 @@ use Rattle.std.proofs.Common.{ℕ, zero, suc, ◌+◌, ◌≡◌, ◌≤◌, ◌
 use Rattle.std.specs.Prelude.{slice_get, ◌⊎◌}
 use Rattle.std.specs.List.{Contains, AllByRecursion}
 use Rattle.std.proofs.lemmas.List.{take_more, map-append}
-use Rattle.std.proofs.lemmas.Option.{slice_get_within, slice_get-get_or, get_or_from_slice_get, same_Some}
+use Rattle.std.proofs.lemmas.Option.{slice_get_within, slice_get-get_or, get_or_from_slice_get, same_Some, none-some}
+use Rattle.lucy_host.proofs.Elements.{same_elements, get_there}
 use Rattle.lucy_place.specs.Proper.{at_one}
-
-pub none_some : {A : Type 0} (x : A) → None ≡ Some x → ⊥
-none_some x h = cc
-
--- lists with the same elements are equal
-pub same_elements : {A : Type 0} (xs ys : List A) → ((i : ℕ) → slice_get xs i ≡ slice_get ys i) → xs ≡ ys
-same_elements [] [] h = refl
-same_elements [] (y ∷ ys) h = absurd (none_some y (h 0))
-same_elements (x ∷ xs) [] h = absurd (none_some x (sym (h 0)))
-same_elements (x ∷ xs) (y ∷ ys) h =
-    let e : x ≡ y = same_Some x y (h 0) in
-    let f : xs ≡ ys = same_elements xs ys (λ i. h (suc i)) in cc
+use Rattle.lucy_place.proofs.NodeLaws.{at_one_within}
 
 pub same_at_one : {A : Type 0} (xs ys : List A) → ((p : ℕ) → at_one xs p ≡ at_one ys p) → xs ≡ ys
 same_at_one xs ys h = same_elements xs ys (λ i. h (suc i))
 
--- the number of an element counts from 1 up to the length
-pub at_one_within : {A : Type 0} (xs : List A) (p : ℕ) (x : A) → at_one xs p ≡ Some x → (1 ≤ p) × (p ≤ length xs)
-at_one_within xs zero x h = absurd (none_some x h)
-at_one_within xs (suc n) x h = let w : n < length xs = slice_get_within xs n x h in (omega arith, omega arith)
-
-pub get_there : {A : Type 0} (xs : List A) (i : ℕ) → i < length xs → (x : A) × (slice_get xs i ≡ Some x)
-get_there [] i h = absurd (omega arith)
-get_there (x ∷ xs) zero h = (x, refl)
-get_there (x ∷ xs) (suc i) h = get_there xs i (omega arith)
-
+-- up to the length each number has an element
 pub at_one_there : {A : Type 0} (xs : List A) (p : ℕ) → 1 ≤ p → p ≤ length xs → (x : A) × (at_one xs p ≡ Some x)
 at_one_there xs zero h l = absurd (omega arith)
 at_one_there xs (suc n) h l = get_there xs n (omega arith)
@@ -40,24 +21,18 @@ pub no_element : {A B : Type 0} (xs : List A) (ys : List B) (p : ℕ) (y : B) �
 no_element xs ys p y e h k =
     let w = at_one_within ys p y k in
     let t = at_one_there xs p w.0 (let l : p ≤ length ys = w.1 in omega arith) in
-    none_some t.0 (sym h ∙ t.1)
+    none-some t.0 (sym h ∙ t.1)
 
 -- what holds of all holds of one
 pub all_at : {A : Type 0} (P : A → Type 0) (xs : List A) (i : ℕ) (x : A) → AllByRecursion P xs → slice_get xs i ≡ Some x → P x
-all_at P [] i x all e = absurd (none_some x e)
+all_at P [] i x all e = absurd (none-some x e)
 all_at P (y ∷ xs) zero x all e = subst P (same_Some y x e) all.0
 all_at P (y ∷ xs) (suc i) x all e = all_at P xs i x all.1 e
 
 -- an element of a list of which so many are taken
-pub get_take : {A : Type 0} (n : ℕ) (xs : List A) (i : ℕ) → i < n → slice_get (take n xs) i ≡ slice_get xs i
-get_take zero xs i h = absurd (omega arith)
-get_take (suc n) [] i h = refl
-get_take (suc n) (x ∷ xs) zero h = refl
-get_take (suc n) (x ∷ xs) (suc i) h = get_take n xs i (omega arith)
-
 pub taken : {A : Type 0} (n : ℕ) (xs : List A) (i : ℕ) (x : A) → slice_get (take n xs) i ≡ Some x → (i < n) × (slice_get xs i ≡ Some x)
-taken zero xs i x h = absurd (none_some x h)
-taken (suc n) [] i x h = absurd (none_some x h)
+taken zero xs i x h = absurd (none-some x h)
+taken (suc n) [] i x h = absurd (none-some x h)
 taken (suc n) (y ∷ xs) zero x h = (omega arith, h)
 taken (suc n) (y ∷ xs) (suc i) x h = let t = taken n xs i x h in (let l : i < n = t.0 in omega arith, t.1)
 
@@ -67,25 +42,11 @@ get_old [] y i h = absurd (omega arith)
 get_old (x ∷ xs) y zero h = refl
 get_old (x ∷ xs) y (suc i) h = get_old xs y i (omega arith)
 
-pub get_last : {A : Type 0} (xs : List A) (y : A) → slice_get (xs ++ y ∷ []) (length xs) ≡ Some y
-get_last [] y = refl
-get_last (x ∷ xs) y = get_last xs y
-
 pub get_push : {A : Type 0} (xs : List A) (y : A) (i : ℕ) (x : A) → slice_get (xs ++ y ∷ []) i ≡ Some x → ((i < length xs) × (slice_get xs i ≡ Some x)) ⊎ ((i ≡ length xs) × (y ≡ x))
 get_push [] y zero x h = inr (refl, same_Some y x h)
-get_push [] y (suc i) x h = absurd (none_some x h)
+get_push [] y (suc i) x h = absurd (none-some x h)
 get_push (z ∷ xs) y zero x h = inl (omega arith, h)
 get_push (z ∷ xs) y (suc i) x h = elim (get_push xs y i x h) [ inl p ↦ inl (let l : i < length xs = p.0 in omega arith, p.1) | inr p ↦ inr (ap suc p.0, p.1) ]
-
--- an element of two lists
-pub get_left : {A : Type 0} (xs ys : List A) (i : ℕ) → i < length xs → slice_get (xs ++ ys) i ≡ slice_get xs i
-get_left [] ys i h = absurd (omega arith)
-get_left (x ∷ xs) ys zero h = refl
-get_left (x ∷ xs) ys (suc i) h = get_left xs ys i (omega arith)
-
-pub get_right : {A : Type 0} (xs ys : List A) (i : ℕ) → slice_get (xs ++ ys) (length xs + i) ≡ slice_get ys i
-get_right [] ys i = ap (slice_get ys) (omega arith)
-get_right (x ∷ xs) ys i = ap (slice_get (x ∷ xs ++ ys)) (let e : length (x ∷ xs) + i ≡ suc (length xs + i) = omega arith in e) ∙ get_right xs ys i
 
 -- membership by number
 pub contains_at : {A : Type 0} (xs : List A) (i : ℕ) (x : A) → slice_get xs i ≡ Some x → Contains xs x
@@ -108,7 +69,7 @@ pub contains_cons : {A : Type 0} (y : A) (xs : List A) (x : A) → Contains (y �
 contains_cons y xs x c = cons_at y xs x (at_contains (y ∷ xs) x c).0 (at_contains (y ∷ xs) x c).1
 
 pub contains_none : {A : Type 0} (x : A) → Contains [] x → ⊥
-contains_none x c = none_some x (at_contains [] x c).1
+contains_none x c = none-some x (at_contains [] x c).1
 
 -- what the elements up to one give, behind other elements
 pub mapped_next : {A B : Type 0} (f : A → B) (start old new : List B) (xs : List A) (i : ℕ) (d : A) → i < length xs → new ≡ old ++ f (get_or xs i d) ∷ [] →

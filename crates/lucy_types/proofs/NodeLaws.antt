@@ -3,7 +3,8 @@ use Rattle.std.proofs.Common.{Vec, Global, ℕ, zero, suc, ◌≡◌, ◌+◌, �
 use Rattle.std.specs.Prelude.{slice_get, ◌⊎◌, Result, Ok, Err, IsOk, IfOk, IfErr}
 use Rattle.std.specs.List.{Contains}
 use Rattle.std.proofs.lemmas.List.{take_more, take-append-le, take_at, map_push, length_push}
-use Rattle.std.proofs.lemmas.Option.{slice_get_within, get_or_from_slice_get}
+use Rattle.std.proofs.lemmas.Option.{slice_get_within, get_or_from_slice_get, none-some}
+use Rattle.lucy_host.proofs.Elements.{get_there}
 use Rattle.lucy_place.specs.declared.placed.PlacedNode.{PlacedNode}
 use Rattle.lucy_place.specs.Proper.{at_one, IsProperNode}
 use Rattle.lucy_types.specs.declared.ty.Ty.{Ty}
@@ -22,7 +23,7 @@ use Rattle.lucy_types.specs.Graphs.{AllFit}
 use Rattle.lucy_types.specs.Ports.{ArePlacesOf, HaveClasses, AreHeads, port_types}
 use Rattle.lucy_types.specs.Nodes.{tables_of, IsSignature, AreSignatures, AreTyped, StandFor, Solves}
 use Rattle.lucy_types.specs.Programs.{IsTyped, HaveTypings, IsClash, RefusesTypes, AnswersTypes, AnswersClash}
-use Rattle.lucy_types.proofs.ListLaws.{none_some, get_there, get_old, get_push}
+use Rattle.lucy_types.proofs.ListLaws.{get_old, get_push}
 use Rattle.lucy_types.proofs.TypingLaws.{same_typings, clash_refutes, clash_weaker, touch_weaker}
 use Rattle.lucy_types.proofs.RuleLaws.{rule_fits}
 use Rattle.lucy_types.proofs.ProgramLaws.{typed_above, typed_unique, clash_untyped, clash_unique}
@@ -42,7 +43,7 @@ stands_fit above known n list places h s e =
 -- a class is at most the place where it stands
 class_most : (tys : List Ty) → AreNumbered tys → (k p : ℕ) → at_one tys p ≡ Some (ty.Open k) → k ≤ p
 class_most tys n zero p e = omega arith
-class_most tys n (suc zero) zero e = absurd (none_some (ty.Open 1) e)
+class_most tys n (suc zero) zero e = absurd (none-some (ty.Open 1) e)
 class_most tys n (suc zero) (suc p) e = omega arith
 class_most tys n (suc (suc k)) p e =
     let o = n.in_order p k e in

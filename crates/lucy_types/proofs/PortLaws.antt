@@ -4,9 +4,10 @@ use Rattle.std.specs.Prelude.{slice_get, slice_index, slice_index_or}
 use Rattle.std.specs.List.{Contains}
 use Rattle.std.proofs.lemmas.Bool.{cases_lt}
 use Rattle.std.proofs.lemmas.List.{length-map, length-take-le, get_or_past}
-use Rattle.std.proofs.lemmas.Option.{same_Some, slice_get_within, slice_get-get_or}
+use Rattle.std.proofs.lemmas.Option.{same_Some, slice_get_within, slice_get-get_or, none-some}
 use Rattle.lucy_host.specs.declared.data_type.DataType.{DataType}
 use Rattle.lucy_host.specs.declared.data_type.DataType.TheVariants.{Int, Bool}
+use Rattle.lucy_host.proofs.Elements.{get_there, get_take, get_left, get_right, get_map}
 use Rattle.lucy_place.specs.declared.entry.PlaceKind.TheVariants.{Result}
 use Rattle.lucy_place.specs.declared.entry.CallSite.{CallSite}
 use Rattle.lucy_place.specs.declared.placed.PlacedNode.{PlacedNode}
@@ -18,7 +19,7 @@ use Rattle.lucy_types.specs.declared.rule.Rule.TheVariants.{Is, Alike}
 use Rattle.lucy_types.specs.Rules.{Joins, Carries}
 use Rattle.lucy_types.specs.Typing.{Typing, IsTyping, as_ty}
 use Rattle.lucy_types.specs.Ports.{ArePlacesOf, port_types, port_rule, joined_rules, counted, HaveClasses, AreHeads}
-use Rattle.lucy_types.proofs.ListLaws.{none_some, get_there, get_take, taken, get_left, get_right, contains_head, contains_tail, contains_cons, contains_none}
+use Rattle.lucy_types.proofs.ListLaws.{taken, contains_head, contains_tail, contains_cons, contains_none}
 use Rattle.lucy_types.proofs.CallLaws.{length_counted, get_counted, counted_get}
 
 -- a rule of ports is that of one of them
@@ -35,9 +36,9 @@ joined_from all (t ∷ ports) (h ∷ heads) [] rule c = absurd (contains_none ru
 
 pub joined_at : (all : List ℕ) (ports : List Ty) (heads places : List ℕ) (i : ℕ) (t : Ty) (p : ℕ) → slice_get ports i ≡ Some t → slice_get places i ≡ Some p → i < length heads
     → Contains (joined_rules all ports heads places) (port_rule t p (slice_index all (slice_index heads i)))
-joined_at all [] heads places i t p e f l = absurd (none_some t e)
+joined_at all [] heads places i t p e f l = absurd (none-some t e)
 joined_at all (s ∷ ports) [] places i t p e f l = absurd (omega arith)
-joined_at all (s ∷ ports) (h ∷ heads) [] i t p e f l = absurd (none_some p f)
+joined_at all (s ∷ ports) (h ∷ heads) [] i t p e f l = absurd (none-some p f)
 joined_at all (s ∷ ports) (h ∷ heads) (q ∷ places) zero t p e f l =
     subst (λ z. Contains (joined_rules all (s ∷ ports) (h ∷ heads) (q ∷ places)) (port_rule z p (slice_index all h))) (same_Some s t e)
     (subst (λ z. Contains (joined_rules all (s ∷ ports) (h ∷ heads) (q ∷ places)) (port_rule s z (slice_index all h))) (same_Some q p f)
@@ -96,18 +97,13 @@ joined_complete tys Joined ports heads places j h a m (Alike p q) c =
 -- the ports of a proper call
 
 pub place_there : (n : ℕ) (ps : List ℕ) (j p : ℕ) → ArePlacesOf n ps → slice_get ps j ≡ Some p → (1 ≤ p) × (p ≤ n)
-place_there n [] j p a e = absurd (none_some p e)
+place_there n [] j p a e = absurd (none-some p e)
 place_there n (q ∷ ps) zero p a e = subst (λ z. (1 ≤ z) × (z ≤ n)) (same_Some q p e) a.0
 place_there n (q ∷ ps) (suc j) p a e = place_there n ps j p a.1 e
 
 result_ty : (tys : List Ty) (p : ℕ) → 1 ≤ p → p ≤ length tys → at_one tys p ≡ Some (slice_index_or tys (p - 1) ty.Int)
 result_ty tys zero a b = absurd (omega arith)
 result_ty tys (suc n) a b = slice_get-get_or tys n ty.Int (omega arith) ∙ ap (λ m. Some (slice_index_or tys m ty.Int)) (let e : n ≡ suc n - 1 = omega arith in e)
-
-pub get_map : {A B : Type 0} (f : A → B) (xs : List A) (i : ℕ) (x : A) → slice_get xs i ≡ Some x → slice_get (map f xs) i ≡ Some (f x)
-get_map f [] i x e = absurd (none_some x e)
-get_map f (y ∷ xs) zero x e = ap (λ z. Some (f z)) (same_Some y x e)
-get_map f (y ∷ xs) (suc i) x e = get_map f xs i x e
 
 param_port : (params : ℕ) (results : List ℕ) (tys : List Ty) (i : ℕ) → params ≤ length tys → i < params → slice_get (port_types params results tys) i ≡ at_one tys (suc i)
 param_port params results tys i l b =
@@ -157,7 +153,7 @@ call_joined callee n call site tys first c = record {
     arguments = c.arguments
 
     to : (inner outer : ℕ) (t : Ty) → Joins callee n call site inner outer → at_one tys inner ≡ Some t → (i : ℕ) × (slice_get places i ≡ Some outer) × (slice_get ports i ≡ Some t)
-    to zero outer t (inl e) f = absurd (none_some t f)
+    to zero outer t (inl e) f = absurd (none-some t f)
     to (suc i) outer t (inl e) f =
         let l : i < length site.args = slice_get_within site.args i outer e in
         (i, get_left site.args (counted first (length callee.results)) i l ∙ e, param_port callee.params callee.results tys i c.params (omega arith) ∙ f)
@@ -186,7 +182,7 @@ call_joined callee n call site tys first c = record {
         )
 
 map_get : {A B : Type 0} (f : A → B) (xs : List A) (i : ℕ) (y : B) → slice_get (map f xs) i ≡ Some y → (x : A) × (f x ≡ y)
-map_get f [] i y e = absurd (none_some y e)
+map_get f [] i y e = absurd (none-some y e)
 map_get f (x ∷ xs) zero y e = (x, same_Some (f x) y e)
 map_get f (x ∷ xs) (suc i) y e = map_get f xs i y e
 

@@ -3,13 +3,14 @@ use Rattle.std.proofs.Common.{ℕ, zero, suc, ◌≡◌, ◌≤◌, ◌<◌, Lis
 use Rattle.std.proofs.lemmas.Bool.{cases_lt}
 use Rattle.std.proofs.lemmas.List.{take_all, take-take, take_more_same, length-take-le}
 use Rattle.std.proofs.lemmas.Option.{slice_get_within, get_or_from_slice_get}
+use Rattle.lucy_host.proofs.Elements.{get_there, get_take}
 use Rattle.lucy_place.specs.declared.placed.PlacedNode.{PlacedNode}
 use Rattle.lucy_types.specs.declared.ty.Ty.{Ty}
 use Rattle.lucy_types.specs.Rules.{IsRule}
 use Rattle.lucy_types.specs.Typing.{AreTypes}
 use Rattle.lucy_types.specs.Clash.{IsClashPath}
 use Rattle.lucy_types.specs.Programs.{IsTyped, IsClash}
-use Rattle.lucy_types.proofs.ListLaws.{get_there, get_take, taken}
+use Rattle.lucy_types.proofs.ListLaws.{taken}
 use Rattle.lucy_types.proofs.TypingLaws.{types_unique, clash_refutes}
 
 -- the tables of the nodes above are the tables of those

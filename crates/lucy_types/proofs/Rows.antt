@@ -1,6 +1,7 @@
 -- The definitions, run on small programs.
 use Rattle.std.proofs.Common.{ℕ, zero, suc, ◌≡◌, true, List, [], ◌∷◌, Some, None, refl, sym, ◌∙◌, inl, inr, arith}
 use Rattle.std.specs.Prelude.{codes, pos}
+use Rattle.std.proofs.lemmas.Option.{none-some}
 use Rattle.lucy_host.specs.declared.data_type.DataType.{DataType}
 use Rattle.lucy_host.specs.declared.data_type.DataType.TheVariants.{Int, Bool}
 use Rattle.lucy_host.specs.declared.op.Op.TheVariants as op
@@ -19,7 +20,7 @@ use Rattle.lucy_types.specs.Rules.{IsRule}
 use Rattle.lucy_types.specs.Typing.{Typing, MeetsRule, IsTyping, SaysType, AreTypes, as_ty}
 use Rattle.lucy_types.specs.Gathered.{own_rules}
 use Rattle.lucy_types.specs.Programs.{IsClash}
-use Rattle.lucy_types.proofs.ListLaws.{none_some, contains_at}
+use Rattle.lucy_types.proofs.ListLaws.{contains_at}
 use Rattle.lucy_types.proofs.RuleLaws.{all_contains, own_complete}
 
 abbrev bare : PlaceKind → PlaceEntry
@@ -51,7 +52,7 @@ t_clash = record {
   n = t;
   found = refl;
   known = [];
-  above = record { all = refl; each = λ i n tys e f. absurd (none_some n e) };
+  above = record { all = refl; each = λ i n tys e f. absurd (none-some n e) };
   clashes = (
     inl record { place = 3; entry = bare (kind.Op op.Add (1 ∷ 4 ∷ [])); stands = refl; says = contains_at (Is 1 Int ∷ Is 4 Int ∷ Is 3 Int ∷ []) 1 (Is 4 Int) refl },
     inl record { place = 4; entry = bare (kind.Op op.Eq (1 ∷ 5 ∷ [])); stands = refl; says = contains_at (Alike 1 5 ∷ Is 4 Bool ∷ []) 1 (Is 4 Bool) refl },
@@ -72,19 +73,19 @@ id_alike = inl record { place = 2; entry = bare (kind.Defined 1); stands = refl;
 id_meets : (u : DataType) → IsTyping (IsRule [] [] id) (λ p. u)
 unfolding id
 id_meets u rule (inl r) = all_contains (MeetsRule (λ p. u)) (own_rules 1 id.places) rule (refl, tt) (own_complete id rule r)
-id_meets u rule (inr r) = absurd (none_some r.callee r.called)
+id_meets u rule (inr r) = absurd (none-some r.callee r.called)
 
 id_open : (p k : ℕ) → at_one id_types p ≡ Some (ty.Open k) → (k ≡ 1) × ((a : Typing) → IsTyping (IsRule [] [] id) a → a p ≡ a 1)
-id_open zero k e = absurd (none_some (ty.Open k) e)
+id_open zero k e = absurd (none-some (ty.Open k) e)
 id_open (suc zero) k e = (cc, λ a m. refl)
 id_open (suc (suc zero)) k e = (cc, λ a m. m (Alike 2 1) id_alike)
-id_open (suc (suc (suc p))) k e = absurd (none_some (ty.Open k) e)
+id_open (suc (suc (suc p))) k e = absurd (none-some (ty.Open k) e)
 
 id_fixed : (p : ℕ) (u : Ty) → at_one id_types p ≡ Some u → u ≡ ty.Open 1
-id_fixed zero u e = absurd (none_some u e)
+id_fixed zero u e = absurd (none-some u e)
 id_fixed (suc zero) u e = cc
 id_fixed (suc (suc zero)) u e = cc
-id_fixed (suc (suc (suc p))) u e = absurd (none_some u e)
+id_fixed (suc (suc (suc p))) u e = absurd (none-some u e)
 
 id_untold : (p : ℕ) (t : DataType) → at_one id_types p ≡ Some (as_ty t) → ⊥
 id_untold p Int e = let h : ty.Int ≡ ty.Open 1 = id_fixed p ty.Int e in cc

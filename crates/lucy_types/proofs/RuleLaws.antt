@@ -4,18 +4,20 @@ use Rattle.std.specs.Prelude.{slice_get, slice_index}
 use Rattle.std.specs.List.{Contains, AllByRecursion}
 use Rattle.std.proofs.lemmas.Bool.{cases_lt}
 use Rattle.std.proofs.lemmas.List.Elements.{Contains-append_left, Contains-append_right, Contains-append_cases}
-use Rattle.std.proofs.lemmas.Option.{same_Some, slice_get_within, slice_get_read, get_or_from_slice_get}
+use Rattle.std.proofs.lemmas.Option.{same_Some, slice_get_within, slice_get_read, get_or_from_slice_get, none-some}
 use Rattle.lucy_host.specs.declared.data_type.DataType.{DataType}
 use Rattle.lucy_host.specs.declared.data_type.DataType.TheVariants.{Int, Bool}
 use Rattle.lucy_host.specs.declared.op.Op.{Op}
 use Rattle.lucy_host.specs.declared.op.Op.TheVariants as op
 use Rattle.lucy_host.specs.Arity.{arity}
+use Rattle.lucy_host.proofs.Elements.{get_map}
 use Rattle.lucy_place.specs.declared.entry.PlaceEntry.{PlaceEntry}
 use Rattle.lucy_place.specs.declared.entry.PlaceKind.{PlaceKind}
 use Rattle.lucy_place.specs.declared.entry.PlaceKind.TheVariants.{Param, Defined, Lit, Op as Operator, Host, When, Merge, Fby, Buffer, Result}
 use Rattle.lucy_place.specs.declared.entry.CallSite.{CallSite}
 use Rattle.lucy_place.specs.declared.placed.PlacedNode.{PlacedNode}
 use Rattle.lucy_place.specs.Proper.{at_one, IsPlace, ArePlaces, IsProperCall, IsProperKind, IsProperNode}
+use Rattle.lucy_place.proofs.NodeLaws.{at_one_within, site_stands}
 use Rattle.lucy_types.specs.declared.ty.Ty.{Ty}
 use Rattle.lucy_types.specs.declared.rule.Rule.{Rule}
 use Rattle.lucy_types.specs.declared.rule.Rule.TheVariants.{Is, Alike}
@@ -26,8 +28,8 @@ use Rattle.lucy_types.specs.Graphs.{IsRuleBelow}
 use Rattle.lucy_types.specs.Gathered.{HasArity, HaveArities, own_rules}
 use Rattle.lucy_types.specs.Ports.{counted, joined_rules, AreHeads}
 use Rattle.lucy_types.specs.Nodes.{tables_of, IsSignature, AreSignatures, StandFor}
-use Rattle.lucy_types.proofs.ListLaws.{none_some, at_one_within, contains_none, contains_cons}
-use Rattle.lucy_types.proofs.PortLaws.{get_map, AreJoined, joined_sound, joined_complete, IsPlacedCall, call_joined, length_ports}
+use Rattle.lucy_types.proofs.ListLaws.{contains_none, contains_cons}
+use Rattle.lucy_types.proofs.PortLaws.{AreJoined, joined_sound, joined_complete, IsPlacedCall, call_joined, length_ports}
 
 -- what holds of all elements holds of one
 pub all_contains : {A : Type 0} (P : A → Type 0) (xs : List A) (x : A) → AllByRecursion P xs → Contains xs x → P x
@@ -116,7 +118,7 @@ written_fit n p (Some t) h = (place_fits n p h, tt)
 
 joins_place : (above : List PlacedNode) (callee n : PlacedNode) (call : ℕ) (site : CallSite) → IsProperNode above n → ArePlaces n site.args → (inner outer : ℕ)
     → Joins callee n call site inner outer → IsPlace n outer
-joins_place above callee n call site h a zero outer (inl e) = absurd (none_some outer e)
+joins_place above callee n call site h a zero outer (inl e) = absurd (none-some outer e)
 joins_place above callee n call site h a (suc i) outer (inl e) =
     let l : i < length site.args = slice_get_within site.args i outer e in
     subst (IsPlace n) (get_or_from_slice_get site.args i outer 0 e) (arg_place n site.args i a l)
@@ -152,7 +154,7 @@ own_from q (entry ∷ places) rule c =
     ]
 
 own_to : (q : ℕ) (places : List PlaceEntry) (i : ℕ) (entry : PlaceEntry) (rule : Rule) → slice_get places i ≡ Some entry → Contains (place_rules (q + i) entry) rule → Contains (own_rules q places) rule
-own_to q [] i entry rule e c = absurd (none_some entry e)
+own_to q [] i entry rule e c = absurd (none-some entry e)
 own_to q (x ∷ places) zero entry rule e c =
     let same : entry ≡ x = sym (same_Some x entry e) in
     Contains-append_left (place_rules q x) (own_rules (q + 1) places) rule
@@ -170,7 +172,7 @@ pub own_complete : (n : PlacedNode) (rule : Rule) → IsPlaceRule n rule → Con
 own_complete n rule r = own_at r.place r.stands r.says
   where
     own_at : (p : ℕ) → at_one n.places p ≡ Some r.entry → Contains (place_rules p r.entry) rule → Contains (own_rules 1 n.places) rule
-    own_at zero e c = absurd (none_some r.entry e)
+    own_at zero e c = absurd (none-some r.entry e)
     own_at (suc i) e c = own_to 1 n.places i r.entry rule e (subst (λ p. Contains (place_rules p r.entry) rule) (let f : suc i ≡ 1 + i = omega arith in f) c)
 
 -- the rules of places and of so many first calls were gathered
@@ -277,10 +279,6 @@ call_facts above n signatures i site s h a e g =
       results = ap length sig.ports ∙ length_ports c.callee.params c.callee.results s.tys.items sig.params ∙ ap (λ m. m + length c.callee.results) (sym c.arguments);
       few = few_places above n (suc i) site c;
     }
-
--- a call as it is read
-pub site_stands : (n : PlacedNode) (sites : List CallSite) (i : ℕ) (site : CallSite) → sites ≡ n.calls → i < length sites → site ≡ get_or sites i site → slice_get n.calls i ≡ Some site
-site_stands n sites i site e l r = ap (λ cs. slice_get cs i) (sym e) ∙ slice_get_read sites (length sites) i site refl l r
 
 -- what is known of a call as it is read
 pub read_facts : (above : List PlacedNode) (n : PlacedNode) (sites : List CallSite) (signatures : List Signature) (i : ℕ) (site : CallSite) (s : Signature) → IsProperNode above n

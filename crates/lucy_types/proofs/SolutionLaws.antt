@@ -2,7 +2,7 @@
 use Rattle.std.proofs.Common.{ℕ, zero, suc, ◌+◌, ◌-◌, ◌≡◌, ◌≤◌, ◌<◌, List, [], ◌∷◌, Option, Some, None, length, map, drop, get_or, replicate, refl, ap, sym, ◌∙◌, subst, inl, inr, arith}
 use Rattle.std.specs.Prelude.{slice_get}
 use Rattle.std.specs.List.{Contains}
-use Rattle.std.proofs.lemmas.Option.{same_Some, slice_get_within}
+use Rattle.std.proofs.lemmas.Option.{same_Some, slice_get_within, none-some}
 use Rattle.std.proofs.lemmas.List.{length-map, length-drop, length-replicate, get_or-drop}
 use Rattle.lucy_host.specs.declared.data_type.DataType.{DataType}
 use Rattle.lucy_host.specs.declared.data_type.DataType.TheVariants.{Int, Bool}
@@ -21,7 +21,6 @@ use Rattle.lucy_types.specs.Flooding.{mark, reached, marked, MayBegin, IsFixed, 
 use Rattle.lucy_types.specs.declared.solve.Solution.{Solution}
 use Rattle.lucy_types.specs.declared.solve.Solution.TheVariants.{Types, Clash}
 use Rattle.lucy_types.specs.Nodes.{Solves}
-use Rattle.lucy_types.proofs.ListLaws.{none_some}
 use Rattle.lucy_types.proofs.TypingLaws.{int_no_bool, clash_weaker, same_typings}
 
 -- what a place of a type is, where each open class is given a type
@@ -177,7 +176,7 @@ pub dry_marks : (f : Flood) (n p : ℕ) → f.marks.items ≡ replicate n None �
 dry_marks f n p e = ap (λ ms. get_or ms p None) e ∙ no_mark n p
 
 no_reached : (f : Flood) → f.queue.items ≡ [] → (i : ℕ) (r : Reached) → reached f i ≡ Some r → ⊥
-no_reached f e i r h = none_some r (sym (ap (λ q. slice_get q i) e) ∙ h)
+no_reached f e i r h = none-some r (sym (ap (λ q. slice_get q i) e) ∙ h)
 
 pub dry_settled : (g : Graph) (f : Flood) (n : ℕ) → length g.near.items ≡ n → f.queue.items ≡ [] → f.marks.items ≡ replicate n None → IsSettled g f
 dry_settled g f n l q m = record {
@@ -186,7 +185,7 @@ dry_settled g f n l q m = record {
     count = ap length q ∙ sym (ap marked m ∙ none_marked n);
     inside = λ i r e. absurd (no_reached f q i r e);
     typed = λ i r e. absurd (no_reached f q i r e);
-    queued = λ p t e. absurd (none_some t (sym (dry_marks f n p m) ∙ e));
+    queued = λ p t e. absurd (none-some t (sym (dry_marks f n p m) ∙ e));
     origin = λ i r t e. absurd (no_reached f q i r e);
     single = λ i j k r s e. absurd (no_reached f q i r e);
   };
@@ -194,7 +193,7 @@ dry_settled g f n l q m = record {
 }
 
 int_marks : (g : Graph) (f₀ f₁ : Flood) → ((p : ℕ) → mark f₀ p ≡ None) → FloodsForced g (HasTrue g.ints.items) ty.Int f₀ f₁ → (p : ℕ) (t : Ty) → mark f₁ p ≡ Some t → t ≡ ty.Int
-int_marks g f₀ f₁ d h p t e = elim (h.only p t e) [ inl u ↦ absurd (none_some t (sym (d p) ∙ u)) | inr u ↦ u ]
+int_marks g f₀ f₁ d h p t e = elim (h.only p t e) [ inl u ↦ absurd (none-some t (sym (d p) ∙ u)) | inr u ↦ u ]
 
 -- before the last flood no place is open
 pub fixed_marks : (g : Graph) (f₀ f₁ f₂ : Flood) → ((p : ℕ) → mark f₀ p ≡ None) → FloodsForced g (HasTrue g.ints.items) ty.Int f₀ f₁

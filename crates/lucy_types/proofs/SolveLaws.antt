@@ -3,12 +3,13 @@ use Rattle.std.proofs.Common.{ℕ, suc, ◌+◌, ◌-◌, ◌≡◌, ◌≤◌, 
 use Rattle.std.specs.Prelude.{◌⊎◌}
 use Rattle.std.proofs.lemmas.Bool.{cases_lt}
 use Rattle.std.proofs.lemmas.List.{map_push, take_more, take_rest, length-drop, get_or-drop}
+use Rattle.std.proofs.lemmas.Option.{none-some}
 use Rattle.lucy_types.specs.declared.ty.Ty.{Ty}
 use Rattle.lucy_types.specs.declared.ty.Ty.TheVariants as ty
 use Rattle.lucy_types.specs.declared.graph.Graph.{Graph}
 use Rattle.lucy_types.specs.declared.flood.Flood.{Flood}
 use Rattle.lucy_types.specs.Flooding.{mark, IsFixed, IsSettled, IsReached, Settles, HaveOrder, FloodsAll}
-use Rattle.lucy_types.proofs.ListLaws.{none_some}
+use Rattle.lucy_types.proofs.HeadLaws.{same_open}
 
 -- of the places before this one, those that must be were reached
 pub record ForcedUpto (g : Graph) (forced : ℕ → Type 0) (t : Ty) (old : Flood) (upto : ℕ) (new : Flood) : Type 0 where
@@ -66,9 +67,6 @@ open_none g f s h = record {
   order = record { from_one = λ p e. not_fixed f h p 0 e; in_order = λ p k e. absurd (not_fixed f h p (suc (suc k)) e) };
 }
 
-same_open : (k l : ℕ) → ty.Open k ≡ ty.Open l → k ≡ l
-same_open k l e = cc
-
 -- what was reached last stands no earlier than the place from which it was
 late : (g : Graph) (old f new : Flood) (next classes q : ℕ) (s : Ty) → OpenUpto g old next classes f → IsSettled g new → mark f q ≡ None → mark new q ≡ Some s → next ≤ q
 late g old f new next classes q s u h n e =
@@ -77,7 +75,7 @@ late g old f new next classes q s u h n e =
           let w = h.flood.queued q s e in
           let i = h.flood.inside w.0 w.1 w.2 in
           let one : 1 ≤ q = subst (λ z. 1 ≤ z) w.3 i.0 in
-          let r = u.all q one b in absurd (none_some r.0 (sym n ∙ r.1))
+          let r = u.all q one b in absurd (none-some r.0 (sym n ∙ r.1))
       | inr b ↦ b
     ]
 

@@ -4,7 +4,8 @@ use Rattle.std.specs.List.{Contains}
 use Rattle.std.proofs.lemmas.List.{get_or_default}
 use Rattle.std.proofs.lemmas.List.Elements.{Contains-get_or}
 use Rattle.std.proofs.lemmas.Bool.{cases_lt, cases_eq}
-use Rattle.std.proofs.lemmas.Option.{slice_get_within, same_Some}
+use Rattle.std.proofs.lemmas.Option.{slice_get_within, same_Some, none-some}
+use Rattle.lucy_host.proofs.Elements.{get_there}
 use Rattle.lucy_types.specs.declared.ty.Ty.{Ty}
 use Rattle.lucy_types.specs.declared.graph.Graph.{Graph}
 use Rattle.lucy_types.specs.declared.flood.Flood.{Flood}
@@ -12,7 +13,6 @@ use Rattle.lucy_types.specs.declared.flood.Reached.{Reached}
 use Rattle.lucy_types.specs.declared.rule.Rule.TheVariants.{Alike}
 use Rattle.lucy_types.specs.Graphs.{GraphRule, IsGraph, beside}
 use Rattle.lucy_types.specs.Flooding.{mark, reached, IsFlood, IsClosed, IsSettled, Grows, AreRecent, MayReach, HasReached, Floods}
-use Rattle.lucy_types.proofs.ListLaws.{none_some, get_there}
 use Rattle.lucy_types.proofs.FloodLaws.{was_reached, grows_on}
 
 -- what may be reached may be so once the flood has grown
@@ -21,7 +21,7 @@ may_grow g old new p t h m q b =
     elim (was_reached (mark new q)) [
       | inl u ↦ inl u
       | inr u ↦ inr (elim (h.only q u.0 u.1) [
-        | inl v ↦ elim (m q b) [ inl w ↦ absurd (none_some u.0 (sym w ∙ v)) | inr w ↦ u.1 ∙ sym v ∙ w ]
+        | inl v ↦ elim (m q b) [ inl w ↦ absurd (none-some u.0 (sym w ∙ v)) | inr w ↦ u.1 ∙ sym v ∙ w ]
         | inr v ↦ u.1 ∙ ap Some v.1
       ])
     ]

@@ -1,4 +1,4 @@
-ghost use Rattle.std.specs.Prelude.{◌≡◌, ◌+◌, ◌<◌, ◌∷◌, ◌++◌, ◌⊎◌, [], ℕ, List, Some, Err, length, take, slice_get, IfOk, IfErr, IsOk, OnOk, MatchOption};
+ghost use Rattle.std.specs.Prelude.{◌≡◌, ◌+◌, ◌<◌, ◌⊎◌, [], ℕ, List, Some, Err, length, take, slice_get, IfOk, IfErr, IsOk, MatchOption};
 ghost use Rattle.lucy_types.specs.declared.ty.Ty.{Ty};
 ghost use Rattle.lucy_place.specs.declared.placed.PlacedNode.{PlacedNode as Node};
 ghost use Rattle.lucy_types.specs.declared.error.TypeError.TheVariants as error;
@@ -13,13 +13,6 @@ use crate::solve::{Solution, solve};
 use crate::typed::Typed;
 use lucy_place::Placed;
 use std::alloc::{AllocError, Global};
-
-fn keep<T: Drop>(list: &mut Vec<T>, next: T) -> Result<(), AllocError>
-    ensures { OnOk result (list.new.items ≡ list.old.items ++ next ∷ []) }
-{
-    list.push(next)?;
-    Ok(())
-}
 
 // The types of the places of a node, with the signatures of the nodes above it.
 fn node_types(
@@ -51,7 +44,7 @@ fn put_types(
         Solution::Types(tys) => {
             let place = placed.node(node);
             let signature = signature_of(alloc, tys, place.params, place.results.list())?;
-            keep(nodes, signature)?;
+            nodes.push(signature)?;
             Ok(None)
         }
         Solution::Clash(path) => Ok(Some(path)),

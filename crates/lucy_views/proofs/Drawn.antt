@@ -1,8 +1,9 @@
 -- What is drawn of the nodes of a program.
-use Rattle.std.proofs.Common.{ℕ, zero, suc, ◌+◌, ◌-◌, ◌≡◌, ◌<◌, ◌≤◌, Bool, true, false, List, [], ◌∷◌, ◌++◌, Option, Some, refl, ap, sym, ◌∙◌, subst, arith}
+use Rattle.std.proofs.Common.{ℕ, ◌+◌, ◌-◌, ◌≡◌, ◌<◌, ◌≤◌, Bool, true, false, List, [], ◌++◌, Option, Some, refl, ap, sym, ◌∙◌, subst, arith}
 use Rattle.std.specs.Prelude.{IfSome, IfNone, length, map, drop, slice_get}
 use Rattle.std.proofs.lemmas.List.{drop_all}
 use Rattle.lucy_host.specs.Operators.{Operator}
+use Rattle.lucy_host.proofs.Elements.{get_there}
 use Rattle.lucy_tree.specs.View.{ProgramTree}
 use Rattle.lucy_place.specs.declared.placed.PlacedNode.{PlacedNode}
 use Rattle.lucy_need.specs.Meeting.{assigned}
@@ -26,19 +27,13 @@ use Rattle.lucy_svg.specs.Notes.{shown_of}
 use Rattle.lucy_svg.specs.Sheets.{PutsPicture}
 use Rattle.lucy_views.specs.Shown.{IsChart, PutsTime, PutsTimes, IsTimeSvg, IsNetText}
 
--- something stands at a number of a list
-there : {A : Type 0} (xs : List A) (i : ℕ) → i < length xs → (x : A) × (slice_get xs i ≡ Some x)
-there [] i h = absurd (omega (arith, h))
-there (x ∷ xs) zero h = (x, refl)
-there (x ∷ xs) (suc i) h = there xs i (omega (arith, h))
-
 -- a node of an accepted program has clocks
 pub both_there : (ops : List Operator) (o : Options) (text : List ℕ) (a : Accepted) (node : ℕ) → IsAccepted ops o text a → node < length a.placed.nodes →
     (n : PlacedNode) × (c : NodeClock) × (slice_get a.placed.nodes node ≡ Some n) × (slice_get a.clocks.items node ≡ Some c)
 both_there ops o text a node is h =
     let count = is.clocked.clocks.all in
-    let n = there a.placed.nodes node h in
-    let c = there a.clocks.items node (omega (arith, h, count)) in
+    let n = get_there a.placed.nodes node h in
+    let c = get_there a.clocks.items node (omega (arith, h, count)) in
     (n.0, c.0, n.1, c.1)
 
 module _ (a : Accepted) (instants : Option ℕ) (node : ℕ) (n : PlacedNode) (c : NodeClock) (node_is : slice_get a.placed.nodes node ≡ Some n)
@@ -88,10 +83,10 @@ pub is_net : (flat : Bool) (tree : ProgramTree) (a : Accepted) (node : ℕ) (old
     ((n : PlacedNode) → flat ≡ true → slice_get a.placed.nodes (length a.placed.nodes - 1) ≡ Some n → print ≡ old ++ net_text tree a n.name.text) →
     IsNetText flat tree a node print
 is_net false tree a node old print within none drawn whole =
-    let n = there a.placed.nodes node within in
+    let n = get_there a.placed.nodes node within in
     (n.0, n.1, subst (λ o. PutsNode tree a node n.0 o print) none (drawn n.0 refl n.1))
 is_net true tree a node old print within none drawn whole =
-    let n = there a.placed.nodes (length a.placed.nodes - 1) (omega (arith, within)) in
+    let n = get_there a.placed.nodes (length a.placed.nodes - 1) (omega (arith, within)) in
     (n.0, n.1, whole n.0 refl n.1 ∙ ap (λ o. o ++ net_text tree a n.0.name.text) none)
 
 -- whatever chronograms of the nodes from a number on come behind, all are put

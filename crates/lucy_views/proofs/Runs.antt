@@ -1,6 +1,6 @@
 -- How a run ends that was asked for.
 use Rattle.std.proofs.Common.{ℕ, ◌≡◌, ◌≢◌, ◌⊎◌, List, [], ◌∷◌, length, Option, None, Result, Ok, Err, refl, ap, sym, subst, inl, inr, arith}
-use Rattle.std.specs.Prelude.{IfOk, IfErr, IsOkAnd}
+use Rattle.std.specs.Prelude.{IfOk, IfErr}
 use Rattle.std.specs.declared.alloc.Global.{Global}
 use Rattle.std.specs.declared.vec.Vec.{Vec}
 use Rattle.std.proofs.lemmas.List.{take_all}
@@ -10,7 +10,6 @@ use Rattle.lucy_host.specs.Operators.{Operator, kinds_of}
 use Rattle.lucy_text.proofs.OutsideLaws.{followed-nil, still_none}
 use Rattle.lucy_text.specs.Outside.{SeenSource, SeenSink, Writes}
 use Rattle.lucy_text.specs.declared.shelf.ShelfError.{ShelfError}
-use Rattle.lucy_lines.specs.declared.input.InputSpec.{InputSpec}
 use Rattle.lucy_lines.specs.Feeding.{IsAsked}
 use Rattle.lucy_text.specs.Sources.{ReadStop, Unread, Read}
 use Rattle.lucy_program.specs.declared.accepted.Accepted.{Accepted}
@@ -28,6 +27,8 @@ use Rattle.lucy_app.specs.Ends.{Tells, TellsEnding}
 use Rattle.lucy_app.specs.Running.{IsRunnable, OwesEnded, OwesRunning}
 use Rattle.lucy_app.specs.Outcomes.{NoRun}
 use Rattle.lucy_app.specs.World.{bytes_of}
+use Rattle.lucy_app.proofs.RunEnds.{some_or_none}
+use Rattle.lucy_app.proofs.Runs.{ok_more}
 use Rattle.lucy_asking.specs.declared.ask.WaveWords.{WaveWords}
 use Rattle.lucy_asking.specs.declared.ask.Ask.TheVariants as ask
 use Rattle.lucy_views.specs.declared.missing.Missing.TheVariants.{Instants}
@@ -41,18 +42,10 @@ use Rattle.lucy_views.specs.Failures.{failure_answer, fetch_failure, RefusesProg
 use Rattle.lucy_views.proofs.Told.{fetch_owed}
 use Rattle.lucy_views.proofs.Sinks.{ends_failed}
 
-ok_more : {T E : Type 0} (r : Result T E) (P Q : T → Type 0) → ((x : T) → P x → Q x) → IsOkAnd r P → IsOkAnd r Q
-ok_more (Ok x) P Q more h = more x h
-ok_more (Err e) P Q more h = h
-
 -- what is known of a text that was fetched
 text_more : (fetched : Result (List ℕ) ShelfError) (P Q : List ℕ → Type 0) → ((text : List ℕ) → P text → Q text) → HasText (fetched ∷ []) P →
     HasText (fetched ∷ []) Q
 text_more r P Q more h = ok_more r P Q more h
-
-some_or_none : (inputs : List InputSpec) → (inputs ≡ []) ⊎ (inputs ≢ [])
-some_or_none [] = inl refl
-some_or_none (input ∷ inputs) = inr (λ e. cc e)
 
 module _ (ops : List Operator) (o : Options) (instants : Option ℕ) where
   -- a fetch gave no text

@@ -7,11 +7,11 @@ use Rattle.clap.specs.Kinds.{IsAmong}
 use Rattle.clap.specs.Faults.{fault_of}
 use Rattle.clap.specs.declared.error.kind.ErrorKind.{ErrorKind}
 use Rattle.clap.specs.declared.error.kind.ErrorKind.TheVariants as kind
+use Rattle.std.proofs.lemmas.Bool.{false_from_ne_true}
 use Rattle.lucy_word.specs.Limits.{limit_number}
 use Rattle.lucy_word.specs.declared.limit.Limit.TheVariants as limit
 use Rattle.lucy_host.specs.Operators.{Operator}
-use Rattle.lucy_text.proofs.OutsideLaws.{appended-nil}
-use Rattle.lucy_text.specs.Outside.{SeenSink, Writes}
+use Rattle.lucy_text.specs.Outside.{SeenSink}
 use Rattle.lucy_text.specs.declared.shelf.ShelfError.{ShelfError}
 use Rattle.lucy_text.specs.Sources.{ReadStop, Read}
 use Rattle.lucy_front.specs.declared.refusal.Refusal.{Refusal}
@@ -21,6 +21,7 @@ use Rattle.lucy_app.specs.Answers.{Answer, OutputOf, printed, refused, read_faul
 use Rattle.lucy_app.specs.Ends.{Tells, EndsBy}
 use Rattle.lucy_app.specs.World.{World, Fetched}
 use Rattle.lucy_app.specs.Commands.{program_of}
+use Rattle.lucy_app.proofs.Sinks.{nothing_written}
 use Rattle.lucy_asking.specs.declared.name.Name.{Name}
 use Rattle.lucy_asking.specs.declared.name.Name.TheVariants as name
 use Rattle.lucy_asking.specs.declared.ask.WaveWords.{WaveWords}
@@ -38,16 +39,6 @@ use Rattle.lucy_views.specs.Meets.{most_input, picture_file, ReadsSource}
 use Rattle.lucy_views.specs.Owes.{missing_line, shown_refused, OwesPicture}
 use Rattle.lucy_views.specs.Looks.{EndsGiven, EndsSo, is_fault, OwesSaid, OwesWords, Looks}
 use Rattle.lucy_views.specs.Failures.{failure_answer, shown_answer, TellsFailure, Prints, IsOutcome, LacksMemory, Delivers, EndsSaying, given_of, unread}
-
--- a sink that is as it was has no more bytes
-unwritten : (s : SeenSink) → Writes s s []
-unwritten s = record { written = sym (appended-nil s.written); faults = refl; goes_on = λ none. none; untouched = λ none. refl }
-
-nothing_written : (s t : SeenSink) (bytes : List ℕ) → t ≡ s → bytes ≡ [] → Writes s t bytes
-nothing_written s t bytes same none =
-    let P : SeenSink → Type 0 = λ u. Writes s u bytes in
-    let Q : List ℕ → Type 0 = λ u. Writes s s u in
-    subst P (sym same) (subst Q (sym none) (unwritten s))
 
 -- where nothing is printed nothing stands on the output
 prints_nothing : (e : Failure) → (failure_answer e).out ≡ []
@@ -153,13 +144,9 @@ pub said_short : (fault : Bool) (out out' err err' : SeenSink) (status : ℕ) �
 said_short fault out out' err err' status same told =
     ends_short (OwesSaid fault) (λ front. front ≡ []) (OutputOf (OwesSaid fault)) refl out out' err err' status same told
 
-not_true : (b : Bool) → (b ≡ true → ⊥) → b ≡ false
-not_true true never = absurd (never refl)
-not_true false never = refl
-
 fault_is : (why : ErrorKind) (fault : Bool) → (fault ≡ true) ↔ ((why ≢ kind.DisplayHelp) × (why ≢ kind.DisplayVersion)) → fault ≡ is_fault why
-fault_is kind.DisplayHelp fault tells = not_true fault (λ is. (tells.0 is).0 refl)
-fault_is kind.DisplayVersion fault tells = not_true fault (λ is. (tells.0 is).1 refl)
+fault_is kind.DisplayHelp fault tells = false_from_ne_true fault (λ is. (tells.0 is).0 refl)
+fault_is kind.DisplayVersion fault tells = false_from_ne_true fault (λ is. (tells.0 is).1 refl)
 fault_is why fault tells = tells.1 (λ e. cc, λ e. cc)
 
 -- what `clap` said of the words, as it tells whether that is a fault

@@ -18,8 +18,7 @@ use lucy_host::Ops;
 use lucy_picture::{chart_of, put_time, turn_of};
 use lucy_program::Accepted;
 use lucy_svg::{drawing_of, put_time_svg, shown_of};
-use lucy_word::OutOfMemory;
-use std::alloc::Global;
+use std::alloc::{AllocError, Global};
 
 // Puts the chronogram of a node last.
 fn put_chart(
@@ -28,7 +27,7 @@ fn put_chart(
     node: u32,
     instants: Option<u64>,
     out: &mut Vec<u8>,
-) -> Result<(), OutOfMemory>
+) -> Result<(), AllocError>
     requires accepted { (ops : List Operator) × (o : Choices) × (text : List ℕ) × IsAccepted ops o text accepted.now }
     requires node { node < length accepted.now.placed.nodes }
     ensures { OnOk result (PutsTime accepted.now instants node out.old.items out.new.items) }
@@ -45,7 +44,7 @@ fn chart(
     accepted: &Accepted,
     node: u32,
     instants: Option<u64>,
-) -> Result<Vec<u8>, OutOfMemory>
+) -> Result<Vec<u8>, AllocError>
     requires accepted { (ops : List Operator) × (o : Choices) × (text : List ℕ) × IsAccepted ops o text accepted.now }
     requires node { node < length accepted.now.placed.nodes }
     ensures { IfOk result (λ v. PutsTime accepted.now instants node [] v.items) }
@@ -60,7 +59,7 @@ fn charts_of(
     alloc: Global,
     accepted: &Accepted,
     instants: Option<u64>,
-) -> Result<Vec<u8>, OutOfMemory>
+) -> Result<Vec<u8>, AllocError>
     requires { (ops : List Operator) × (o : Choices) × (text : List ℕ) × IsAccepted ops o text accepted.now }
     ensures { IfOk result (λ v. PutsTimes accepted.now instants 0 accepted.now.placed.nodes [] v.items) }
 {
@@ -77,7 +76,7 @@ fn drawn(
     accepted: &Accepted,
     node: u32,
     instants: Option<u64>,
-) -> Result<Vec<u8>, OutOfMemory>
+) -> Result<Vec<u8>, AllocError>
     requires accepted { (ops : List Operator) × (o : Choices) × (text : List ℕ) × IsAccepted ops o text accepted.now }
     requires node { node < length accepted.now.placed.nodes }
     ensures { IfOk result (λ v. IsTimeSvg accepted.now instants node v.items) }

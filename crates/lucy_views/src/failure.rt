@@ -8,7 +8,7 @@ use crate::missing::Missing;
 use lucy_naming::NameError;
 use lucy_syntax::SyntaxError;
 use lucy_text::ShelfError;
-use lucy_word::{Limit, OutOfMemory};
+use lucy_word::Limit;
 use std::alloc::AllocError;
 
 /// Why nothing is printed.
@@ -28,14 +28,6 @@ impl From<AllocError> for Failure {
     ghost from_gives = { λ _ e. e ≡ OutOfMemory };
 
     fn from(_: AllocError) -> Self {
-        Failure::OutOfMemory
-    }
-}
-
-impl From<OutOfMemory> for Failure {
-    ghost from_gives = { λ _ e. e ≡ OutOfMemory };
-
-    fn from(_: OutOfMemory) -> Self {
         Failure::OutOfMemory
     }
 }

@@ -22,8 +22,7 @@ use lucy_picture::{form_of, offset_of, put_entry, put_spot};
 use lucy_place::{PlaceEntry, Placed, PlacedNode};
 use lucy_syntax::parse;
 use lucy_tree::{Expr, Program};
-use lucy_word::OutOfMemory;
-use std::alloc::Global;
+use std::alloc::{AllocError, Global};
 
 // What is printed of an offset.
 fn offset_text(alloc: Global, text: &[u8], offset: u64) -> Result<Vec<u8>, Failure>
@@ -69,7 +68,7 @@ fn entry_text(
     number: u32,
     place: u32,
     entry: &PlaceEntry,
-) -> Result<Vec<u8>, OutOfMemory>
+) -> Result<Vec<u8>, AllocError>
     ensures { (nodes : List Node) → slice_get nodes number ≡ Some node.now → at_one node.now.places place ≡ Some entry.now →
         IfOk result (λ v. IsPlaceText text.now (program_tree program.now) nodes number place v.items) }
 {

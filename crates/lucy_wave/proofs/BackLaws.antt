@@ -32,6 +32,8 @@ use Rattle.lucy_run.specs.Owes.{input_words, heading, lines_to, EndsFor}
 use Rattle.lucy_lines.specs.Feeding.{OneFeed}
 use Rattle.lucy_word.specs.Limits.{limit_number}
 use Rattle.lucy_word.specs.declared.limit.Limit.TheVariants as limit
+use Rattle.lucy_word.proofs.Lists.{all_join, still_there}
+use Rattle.lucy_word.proofs.BitsLaws.{one_most}
 use Rattle.lucy_host.specs.Operators.{Operator}
 use Rattle.lucy_program.specs.declared.accepted.Accepted.{Accepted}
 use Rattle.lucy_program.specs.declared.options.Options.{Options}
@@ -117,10 +119,6 @@ unsigned_low : (z : ℤ) → FitsSigned w64 z → cast_unsigned w64 z < 2 ^ 64
 unsigned_low (pos n) fits = let low = fits.sfits in omega arith
 unsigned_low (negsuc n) fits = omega arith
 
-one_low : (b : Bool) → one_if b ≤ 1
-one_low true = omega arith
-one_low false = omega arith
-
 last_low : (items : List ℤ) → Fit items → (n : ℕ) → cast_unsigned w64 (last_item items n) < 2 ^ 64
 last_low items fit zero = omega arith
 last_low items fit (suc n) = unsigned_low (get_or items n (pos 0)) (fit n)
@@ -132,21 +130,16 @@ module _ (scope : List ℕ) (vs : List Variable) (H : ℕ) (few : length vs < 2 
   results_shown [] lists j fit at = tt
   results_shown (o ∷ outputs) [] j fit at = tt
   results_shown (o ∷ outputs) (items ∷ lists) j fit at = (
-    shown_at scope vs H few early (j + 0) (there o.name o.word) (at 0 (there o.name o.word) refl) (λ s. one_low (bit_at o.word s)),
+    shown_at scope vs H few early (j + 0) (there o.name o.word) (at 0 (there o.name o.word) refl) (λ s. one_most (bit_at o.word s)),
     (
       shown_at scope vs H few early (j + 1) (last o.name o.word items) (at 1 (last o.name o.word items) refl) (λ s. last_low items fit.0 (ones_to o.word s)),
       results_shown outputs lists (j + 2) fit.1 (λ i v e. let next : j + suc (suc i) ≡ j + 2 + i = omega arith in subst (λ k. slice_get vs k ≡ Some v) next (at (suc (suc i)) v e)),
     ),
   )
 
-slice_get_front : {A : Type 0} (xs ys : List A) (i : ℕ) (x : A) → slice_get xs i ≡ Some x → slice_get (xs ++ ys) i ≡ Some x
-slice_get_front [] ys i x e = absurd (cc)
-slice_get_front (y ∷ xs) ys zero x e = e
-slice_get_front (y ∷ xs) ys (suc i) x e = slice_get_front xs ys i x e
-
 pub first_results : (outputs : List OutputSpec) (lists : List (List ℤ)) (others : List Variable) (i : ℕ) (v : Variable) → slice_get (results outputs lists) i ≡ Some v → slice_get (results outputs lists ++ others) (0 + i) ≡ Some v
 first_results outputs lists others i v e =
-    let same : i ≡ 0 + i = omega arith in subst (λ k. slice_get (results outputs lists ++ others) k ≡ Some v) same (slice_get_front (results outputs lists) others i v e)
+    let same : i ≡ 0 + i = omega arith in subst (λ k. slice_get (results outputs lists ++ others) k ≡ Some v) same (still_there (results outputs lists) others i v e)
 
 -- no line of a dump has a line feed
 free_append : (x : ℕ) (xs ys : List ℕ) → Free x xs → Free x ys → Free x (xs ++ ys)
@@ -188,10 +181,6 @@ code_free k = ((λ e. omega arith), decimal_free k)
 -- the names of variables have none
 abbrev pub AreNamed : List Variable → Type 0
 AreNamed vs = AllByRecursion (λ (v : Variable). Free 10 v.name) vs
-
-all_join : {A : Type 0} (P : A → Type 0) (xs ys : List A) → AllByRecursion P xs → AllByRecursion P ys → AllByRecursion P (xs ++ ys)
-all_join P [] ys all more = more
-all_join P (x ∷ xs) ys all more = (all.0, all_join P xs ys all.1 more)
 
 stream_named : (name : List ℕ) (word : Bits) (items : List ℤ) (others : List Variable) → IsPlain name → AreNamed others → AreNamed (stream name word items ++ others)
 stream_named name word items others plain named = (there_free name plain, (name_free name plain, named))

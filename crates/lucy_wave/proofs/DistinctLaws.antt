@@ -9,6 +9,8 @@ use Rattle.std.proofs.lemmas.Bool.{cases_eq, cases_lt, leb-false, eq-eqb}
 use Rattle.std.proofs.lemmas.Fmt.{decimal_injective, decimal_is_IsNumeral}
 use Rattle.std.proofs.lemmas.Option.{same_Some}
 use Rattle.lucy_word.specs.Bits.{Bits}
+use Rattle.lucy_word.proofs.Lists.{all_at, all_join, all_weaker}
+use Rattle.lucy_host.proofs.Elements.{get_there}
 use Rattle.lucy_tree.specs.declared.span.Name.{Name}
 use Rattle.lucy_place.specs.declared.entry.PlaceEntry.{PlaceEntry}
 use Rattle.lucy_place.specs.declared.entry.PlaceKind.{PlaceKind}
@@ -20,8 +22,6 @@ use Rattle.lucy_need.specs.Meeting.{Assignment, assigned}
 use Rattle.lucy_program.specs.Names.{place_name}
 use Rattle.lucy_program.specs.Scheduled.{main_output}
 use Rattle.lucy_program.specs.Report.{first_operand}
-use Rattle.lucy_kahn.proofs.Closed.{each_of}
-use Rattle.lucy_kahn.proofs.JoinedLists.{there as there_at}
 use Rattle.lucy_wave.specs.Names.{there_name, buffer_name}
 use Rattle.lucy_wave.specs.Dumps.{Variable}
 use Rattle.lucy_wave.specs.Laws.{AreDistinct}
@@ -74,14 +74,6 @@ bit_buffer s k low plain e =
 buffer_once : (j k : ℕ) → j < 2 ^ 64 → k < 2 ^ 64 → buffer_name j ≡ buffer_name k → j ≡ k
 buffer_once j k l h e = decimal_injective j k l h (cut_once 36 (codes "buffer") (codes "buffer") (decimal j) (decimal k) (lit_free 36 (codes "buffer") refl) (lit_free 36 (codes "buffer") refl) e).1
 
-all_join : {A : Type 0} (P : A → Type 0) (xs ys : List A) → AllByRecursion P xs → AllByRecursion P ys → AllByRecursion P (xs ++ ys)
-all_join P [] ys all more = more
-all_join P (x ∷ xs) ys all more = (all.0, all_join P xs ys all.1 more)
-
-all_map : {A : Type 0} (P Q : A → Type 0) (xs : List A) → ((x : A) → P x → Q x) → AllByRecursion P xs → AllByRecursion Q xs
-all_map P Q [] f all = tt
-all_map P Q (x ∷ xs) f all = (f x all.0, all_map P Q xs f all.1)
-
 apart_join : (xs ys : List Variable) → AreApart xs → AreApart ys → AllByRecursion (λ v. IsApart v ys) xs → AreApart (xs ++ ys)
 apart_join [] ys own more between = more
 apart_join (x ∷ xs) ys own more between = (all_join (λ (u : Variable). x.name ≢ u.name) xs ys own.0 between.0, apart_join xs ys own.1 more between.1)
@@ -96,7 +88,7 @@ apart_at [] apart i j v u l e f same = cc
 apart_at (x ∷ vs) apart zero zero v u l e f same = omega arith
 apart_at (x ∷ vs) apart zero (suc j) v u l e f same =
     let own : x ≡ v = same_Some x v e in
-    each_of (λ (y : Variable). x.name ≢ y.name) vs j u apart.0 f (ap (λ (y : Variable). y.name) own ∙ same)
+    all_at (λ (y : Variable). x.name ≢ y.name) vs j u apart.0 f (ap (λ (y : Variable). y.name) own ∙ same)
 apart_at (x ∷ vs) apart (suc i) zero v u l e f same = omega arith
 apart_at (x ∷ vs) apart (suc i) (suc j) v u l e f same = apart_at vs apart.1 i j v u (omega arith) e f same
 
@@ -150,14 +142,14 @@ module _ (n : PlacedNode) (plain : (place : ℕ) → IsPlain (written_name n pla
   apart_from : (v : Variable) (ps : List ℕ) (vs : List Variable) → AllByRecursion (λ q. (u : Variable) → IsOf q u → v.name ≢ u.name) ps → Shows ps vs → IsApart v vs
   apart_from v [] vs all e = subst (IsApart v) (sym e) tt
   apart_from v (p ∷ ps) vs all (own, rest, e, apart, are, left) =
-      subst (IsApart v) (sym e) (all_join (λ (u : Variable). v.name ≢ u.name) own rest (all_map (IsOf p) (λ (u : Variable). v.name ≢ u.name) own all.0 are) (apart_from v ps rest all.1 left))
+      subst (IsApart v) (sym e) (all_join (λ (u : Variable). v.name ≢ u.name) own rest (all_weaker (IsOf p) (λ (u : Variable). v.name ≢ u.name) own all.0 are) (apart_from v ps rest all.1 left))
 
   shows_apart : (ps : List ℕ) (vs : List Variable) → AreOther ps → Shows ps vs → AreApart vs
   shows_apart [] vs other e = subst AreApart (sym e) tt
   shows_apart (p ∷ ps) vs other (own, rest, e, apart, are, left) =
       subst AreApart (sym e) (apart_join own rest apart (shows_apart ps rest other.1 left)
-      (all_map (IsOf p) (λ v. IsApart v rest) own
-      (λ v is. apart_from v ps rest (all_map (IsOther p) (λ q. (u : Variable) → IsOf q u → v.name ≢ u.name) ps (λ q o u of. of_apart p q v u o is of) other.0) left) are))
+      (all_weaker (IsOf p) (λ v. IsApart v rest) own
+      (λ v is. apart_from v ps rest (all_weaker (IsOther p) (λ q. (u : Variable) → IsOf q u → v.name ≢ u.name) ps (λ q o u of. of_apart p q v u o is of) other.0) left) are))
 
   -- those of buffers are apart from them
   buffers_from : (v : Variable) (w : Assignment) (number : ℕ) (places : List ℕ) → ((k : ℕ) → number ≤ k → k < number + length places → v.name ≢ buffer_name k) → IsApart v (buffers n w number places)
@@ -175,7 +167,7 @@ module _ (n : PlacedNode) (plain : (place : ℕ) → IsPlain (written_name n pla
   shows_buffers [] vs w number places few e = subst (AllByRecursion (λ v. IsApart v (buffers n w number places))) (sym e) tt
   shows_buffers (p ∷ ps) vs w number places few (own, rest, e, apart, are, left) =
       subst (AllByRecursion (λ v. IsApart v (buffers n w number places))) (sym e) (all_join (λ v. IsApart v (buffers n w number places)) own rest
-      (all_map (IsOf p) (λ v. IsApart v (buffers n w number places)) own (λ v is. buffers_from v w number places (λ k l h. of_buffer p k v (omega arith) is)) are)
+      (all_weaker (IsOf p) (λ v. IsApart v (buffers n w number places)) own (λ v is. buffers_from v w number places (λ k l h. of_buffer p k v (omega arith) is)) are)
       (shows_buffers ps rest w number places few left))
 
   -- a stream with its items shows its place
@@ -273,7 +265,7 @@ module _ (n : PlacedNode) (plain : (place : ℕ) → IsPlain (written_name n pla
   inputs_are place zero = tt
   inputs_are place (suc count) =
       by (is_among place n.results) refl
-      (all_map (IsInput (place + 1) count) (IsInput place (suc count)) (input_places (place + 1) count) (λ q is. (is.0, (let l = is.1 in omega arith), (let h = is.2 in omega arith))) (inputs_are (place + 1) count))
+      (all_weaker (IsInput (place + 1) count) (IsInput place (suc count)) (input_places (place + 1) count) (λ q is. (is.0, (let l = is.1 in omega arith), (let h = is.2 in omega arith))) (inputs_are (place + 1) count))
     where
       by : (b : Bool) → is_among place n.results ≡ b → AllByRecursion (IsInput place (suc count)) (input_places (place + 1) count) →
           AllByRecursion (IsInput place (suc count)) ((if b then [] else place ∷ []) ++ input_places (place + 1) count)
@@ -281,7 +273,7 @@ module _ (n : PlacedNode) (plain : (place : ℕ) → IsPlain (written_name n pla
       by false e rest = ((e, omega arith, omega arith), rest)
 
   unlike_later : (p : ℕ) (qs : List ℕ) → AllByRecursion (λ q. p < q) qs → IsUnlike p qs
-  unlike_later p qs all = all_map (λ q. p < q) (λ q. p ≢ q) qs (λ q l e. omega arith) all
+  unlike_later p qs all = all_weaker (λ q. p < q) (λ q. p ≢ q) qs (λ q l e. omega arith) all
 
   inputs_unlike : (place count : ℕ) → AreUnlike (input_places place count)
   inputs_unlike place zero = tt
@@ -289,7 +281,7 @@ module _ (n : PlacedNode) (plain : (place : ℕ) → IsPlain (written_name n pla
     where
       by : (b : Bool) → AreUnlike (input_places (place + 1) count) → AreUnlike ((if b then [] else place ∷ []) ++ input_places (place + 1) count)
       by true rest = rest
-      by false rest = (unlike_later place (input_places (place + 1) count) (all_map (IsInput (place + 1) count) (λ q. place < q) (input_places (place + 1) count) (λ q is. let l = is.1 in omega arith) (inputs_are (place + 1) count)), rest)
+      by false rest = (unlike_later place (input_places (place + 1) count) (all_weaker (IsInput (place + 1) count) (λ q. place < q) (input_places (place + 1) count) (λ q is. let l = is.1 in omega arith) (inputs_are (place + 1) count)), rest)
 
   abbrev IsInner : (place q : ℕ) → Type 0
   IsInner place q = (is_outer n q ≡ false) × (place ≤ q)
@@ -306,14 +298,14 @@ module _ (n : PlacedNode) (plain : (place : ℕ) → IsPlain (written_name n pla
   inner_are place [] = tt
   inner_are place (entry ∷ entries) =
       all_join (IsInner place) (inner_place n place entry.name) (inner_places n (place + 1) entries) (inner_one place entry.name)
-      (all_map (IsInner (place + 1)) (IsInner place) (inner_places n (place + 1) entries) (λ q is. (is.0, (let l = is.1 in omega arith))) (inner_are (place + 1) entries))
+      (all_weaker (IsInner (place + 1)) (IsInner place) (inner_places n (place + 1) entries) (λ q is. (is.0, (let l = is.1 in omega arith))) (inner_are (place + 1) entries))
 
   inner_unlike : (place : ℕ) (entries : List PlaceEntry) → AreUnlike (inner_places n place entries)
   inner_unlike place [] = tt
   inner_unlike place (entry ∷ entries) = of entry.name (inner_unlike (place + 1) entries)
     where
       later : IsUnlike place (inner_places n (place + 1) entries)
-      later = unlike_later place (inner_places n (place + 1) entries) (all_map (IsInner (place + 1)) (λ q. place < q) (inner_places n (place + 1) entries) (λ q is. let l = is.1 in omega arith) (inner_are (place + 1) entries))
+      later = unlike_later place (inner_places n (place + 1) entries) (all_weaker (IsInner (place + 1)) (λ q. place < q) (inner_places n (place + 1) entries) (λ q is. let l = is.1 in omega arith) (inner_are (place + 1) entries))
 
       of : (name : Option Name) → AreUnlike (inner_places n (place + 1) entries) → AreUnlike (inner_place n place name ++ inner_places n (place + 1) entries)
       of None rest = rest
@@ -327,20 +319,20 @@ module _ (n : PlacedNode) (plain : (place : ℕ) → IsPlain (written_name n pla
       let inner_is = inner_are 1 n.places in
       let inputs_is = inputs_are 1 count in
       let none : AllByRecursion (λ q. is_among q n.results ≡ false) (input_places 1 count ++ inner_of n) =
-      all_join (λ q. is_among q n.results ≡ false) (input_places 1 count) (inner_of n) (all_map (IsInput 1 count) (λ q. is_among q n.results ≡ false) (input_places 1 count) (λ q is. is.0) inputs_is)
-      (all_map (IsInner 1) (λ q. is_among q n.results ≡ false) (inner_of n) no_result inner_is) in
+      all_join (λ q. is_among q n.results ≡ false) (input_places 1 count) (inner_of n) (all_weaker (IsInput 1 count) (λ q. is_among q n.results ≡ false) (input_places 1 count) (λ q is. is.0) inputs_is)
+      (all_weaker (IsInner 1) (λ q. is_among q n.results ≡ false) (inner_of n) no_result inner_is) in
       unlike_join n.results (input_places 1 count ++ inner_of n) own
       (unlike_join (input_places 1 count) (inner_of n) (inputs_unlike 1 count) (inner_unlike 1 n.places)
-      (all_map (IsInput 1 count) (λ x. IsUnlike x (inner_of n)) (input_places 1 count)
-      (λ x is. unlike_later x (inner_of n) (all_map (IsInner 1) (λ q. x < q) (inner_of n) (λ q own_is. (let l = past q own_is in let h = is.2 in omega arith)) inner_is)) inputs_is))
-      (all_map (λ r. is_among r n.results ≡ true) (λ r. IsUnlike r (input_places 1 count ++ inner_of n)) n.results (λ r e. unlike_results r (input_places 1 count ++ inner_of n) e none) (among_self n.results))
+      (all_weaker (IsInput 1 count) (λ x. IsUnlike x (inner_of n)) (input_places 1 count)
+      (λ x is. unlike_later x (inner_of n) (all_weaker (IsInner 1) (λ q. x < q) (inner_of n) (λ q own_is. (let l = past q own_is in let h = is.2 in omega arith)) inner_is)) inputs_is))
+      (all_weaker (λ r. is_among r n.results ≡ true) (λ r. IsUnlike r (input_places 1 count ++ inner_of n)) n.results (λ r e. unlike_results r (input_places 1 count ++ inner_of n) e none) (among_self n.results))
 
   -- parameters have names
   param_named : (above : List PlacedNode) → IsProperNode above n → (q : ℕ) → 1 ≤ q → q ≤ n.params → IsNamed n q
   param_named above proper zero low high = absurd (omega arith)
   param_named above proper (suc i) low high =
       let params = proper.params in
-      let entry = there_at n.places i (omega arith) in
+      let entry = get_there n.places i (omega arith) in
       of entry.0 entry.1 entry.0.kind refl
     where
       of : (entry : PlaceEntry) → slice_get n.places i ≡ Some entry → (k : PlaceKind) → entry.kind ≡ k → IsNamed n (suc i)
@@ -356,7 +348,7 @@ module _ (n : PlacedNode) (plain : (place : ℕ) → IsPlain (written_name n pla
       of entry e (kind.Result c j) f = let is = (subst (IsProperKind n (suc i)) f (proper.kinds (suc i) entry e)).0 in absurd (omega arith)
 
   inputs_named : (above : List PlacedNode) → IsProperNode above n → (count : ℕ) → count ≤ n.params → AreNamed n (input_places 1 count)
-  inputs_named above proper count few = all_map (IsInput 1 count) (IsNamed n) (input_places 1 count) (λ q is. param_named above proper q is.1 (let h = is.2 in omega arith)) (inputs_are 1 count)
+  inputs_named above proper count few = all_weaker (IsInput 1 count) (IsNamed n) (input_places 1 count) (λ q is. param_named above proper q is.1 (let h = is.2 in omega arith)) (inputs_are 1 count)
 
   -- no two of all variables have one name
   pub variables_distinct : (above : List PlacedNode) → IsProperNode above n → AreUnlike n.results → (types : List Ty) (words : List Bits) (w : Assignment) (lists streams : List (List ℤ)) (inside : Option (List (List ℤ))) →

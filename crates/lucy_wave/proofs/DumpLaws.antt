@@ -1,5 +1,5 @@
 -- The text of a dump, line by line.
-use Rattle.std.proofs.Common.{Bool, ℕ, suc, ◌+◌, ◌<◌, ◌≡◌, List, [], ◌∷◌, ◌++◌, length, drop, get_or, ap, sym, ◌∙◌, subst, append_assoc, append-nil, arith, Result, Ok, Err, OnOk}
+use Rattle.std.proofs.Common.{Bool, ℕ, suc, ◌+◌, ◌<◌, ◌≡◌, List, [], ◌∷◌, ◌++◌, length, drop, get_or, ap, sym, ◌∙◌, subst, append_assoc, append-nil, arith}
 use Rattle.std.proofs.lemmas.List.Concat.{flat_map-append}
 use Rattle.std.specs.Prelude.{codes}
 use Rattle.lucy_wave.specs.declared.variable.Variable.{Variable as Shown}
@@ -77,12 +77,6 @@ header_text scope vs =
     ap (λ x. x ++ T) (append_assoc scope (codes " $end") (codes "\n")) ∙ append_assoc scope (codes " $end\n") T in
     ap (λ x. codes "$timescale 1 ns $end\n$scope module " ++ x) (line ∙ ap (λ x. scope ++ (codes " $end\n" ++ x)) (text_append (declarations 0 vs) last))
 
--- five pieces
-pub five : (a b c d e f p q r s t : List ℕ) → b ≡ a ++ p → c ≡ b ++ q → d ≡ c ++ r → e ≡ d ++ s → f ≡ e ++ t → f ≡ a ++ (p ++ (q ++ (r ++ (s ++ t))))
-five a b c d e f p q r s t one two three four last =
-    last ∙ ap (λ x. x ++ t) (four ∙ ap (λ x. x ++ s) (three ∙ ap (λ x. x ++ r) (two ∙ ap (λ x. x ++ q) one)))
-    ∙ append_assoc (((a ++ p) ++ q) ++ r) s t ∙ append_assoc ((a ++ p) ++ q) r (s ++ t) ∙ append_assoc (a ++ p) q (r ++ (s ++ t)) ∙ append_assoc a p (q ++ (r ++ (s ++ t)))
-
 -- the text of a dump
 pub dump_text : (scope : List ℕ) (vs : List Variable) (t s : ℕ) (a b c d : List ℕ) → s ≡ suc t → b ≡ a ++ text_of (header scope vs) → c ≡ b ++ text_of (steps vs t) → d ≡ c ++ text_of (time_line s ∷ []) →
     d ≡ a ++ text_of (dump scope vs t)
@@ -93,8 +87,3 @@ dump_text scope vs t s a b c d next one two last =
     let split : text_of (dump scope vs t) ≡ H ++ (S ++ T) =
     text_append (header scope vs) (steps vs t ++ (time_line (suc t) ∷ [])) ∙ ap (λ x. H ++ x) (text_append (steps vs t) (time_line (suc t) ∷ [])) in
     last ∙ ap (λ n. c ++ text_of (time_line n ∷ [])) next ∙ ap (λ x. x ++ T) (two ∙ ap (λ x. x ++ S) one) ∙ append_assoc (a ++ H) S T ∙ append_assoc a H (S ++ T) ∙ ap (λ x. a ++ x) (sym split)
-
--- what holds where a call went well
-pub ok_more : {T E P Q : Type 0} (r : Result T E) → (P → Q) → OnOk r P → OnOk r Q
-ok_more (Ok x) f p = f p
-ok_more (Err e) f p = tt

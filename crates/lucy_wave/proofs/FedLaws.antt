@@ -2,14 +2,17 @@
 use Rattle.std.proofs.Common.{ℕ, suc, zero, ◌+◌, ◌-◌, ◌*◌, ◌<◌, ◌≡◌, Bool, eqb, List, [], ◌∷◌, ◌++◌, Some, length, map, take, get_or, ap, sym, refl, ◌∙◌, subst, inl, inr, arith}
 use Rattle.std.specs.Prelude.{ℤ, slice_get, option_map, if◌then◌else◌}
 use Rattle.std.proofs.lemmas.List.{map-append, take_more, length-map}
-use Rattle.std.proofs.lemmas.Option.{same_Some, slice_get_within, slice_get-map, get_or_from_slice_get}
+use Rattle.std.proofs.lemmas.Option.{slice_get_within, slice_get-map, get_or_from_slice_get}
 use Rattle.lucy_word.specs.Bits.{Bits, ones_to}
+use Rattle.lucy_word.proofs.Lists.{map_from}
 use Rattle.lucy_host.specs.declared.kind.HostKind.{HostKind}
 use Rattle.lucy_host.specs.Operators.{kinds_of}
+use Rattle.lucy_host.proofs.Elements.{get_there}
 use Rattle.lucy_stream.specs.Items.{list_at}
 use Rattle.lucy_stream.specs.Iterates.{Place, lists_of, iterate}
 use Rattle.lucy_stream.specs.Lists.{form_list}
 use Rattle.lucy_stream.specs.Plans.{Task, GiveBelow}
+use Rattle.lucy_stream.proofs.IterateLaws.{list_at_map}
 use Rattle.lucy_net.specs.declared.net.Actor.{Actor}
 use Rattle.lucy_net.specs.declared.net.Net.{Net}
 use Rattle.lucy_net.specs.Plans.{task_of, giver, taker, plan}
@@ -23,7 +26,7 @@ use Rattle.lucy_clock.specs.declared.node_clock.NodeClock.{NodeClock}
 use Rattle.lucy_kahn.specs.Spots.{at, IsSpot}
 use Rattle.lucy_kahn.specs.Sizes.{all_places}
 use Rattle.lucy_kahn.specs.Kahn.{kahn}
-use Rattle.lucy_kahn.proofs.JoinedLists.{there, mapped}
+use Rattle.lucy_kahn.proofs.JoinedLists.{mapped}
 use Rattle.lucy_results.specs.Streams.{main_word, main_stream}
 use Rattle.lucy_wave.specs.Watching.{output_on, with_output}
 use Rattle.lucy_wave.specs.Seen.{IsGrown, IsFedBy}
@@ -48,29 +51,19 @@ lists_same lists others count [] low same = refl
 lists_same lists others count (x ∷ reads) low same =
     ap (λ l. l ∷ lists_of others reads) (same x (low zero x refl)) ∙ ap (λ ls. list_at lists x ∷ ls) (lists_same lists others count reads (λ k y e. low (suc k) y e) same)
 
--- the element of a list that was mapped
-map_list : (f : Place → List ℤ) (places : List Place) (a : ℕ) (place : Place) → slice_get places a ≡ Some place → list_at (map f places) a ≡ f place
-map_list f places a place e = get_or_from_slice_get (map f places) a (f place) [] (slice_get-map f places a ∙ ap (option_map f) e)
-
 -- places that read one another alone have the same lists among more
 module _ (kinds : List HostKind) (inputs : List (List ℤ)) (places others : List Place)
     (stay : (a : ℕ) (place : Place) → slice_get places a ≡ Some place → slice_get others a ≡ Some place)
     (inside : (a k x : ℕ) (place : Place) → slice_get places a ≡ Some place → slice_get place.reads k ≡ Some x → x < length places) where
   pub same_lists : (n a : ℕ) → a < length places → list_at (iterate kinds inputs others n) a ≡ list_at (iterate kinds inputs places n) a
   same_lists zero a h =
-      let p = there places a h in
-      map_list (λ place. []) others a p.0 (stay a p.0 p.1) ∙ sym (map_list (λ place. []) places a p.0 p.1)
+      let p = get_there places a h in
+      list_at_map (λ place. []) others a p.0 (stay a p.0 p.1) ∙ sym (list_at_map (λ place. []) places a p.0 p.1)
   same_lists (suc n) a h =
-      let p = there places a h in
-      map_list (λ place. form_list kinds inputs n place.form (lists_of (iterate kinds inputs others n) place.reads)) others a p.0 (stay a p.0 p.1)
+      let p = get_there places a h in
+      list_at_map (λ place. form_list kinds inputs n place.form (lists_of (iterate kinds inputs others n) place.reads)) others a p.0 (stay a p.0 p.1)
       ∙ ap (form_list kinds inputs n p.0.form) (lists_same (iterate kinds inputs places n) (iterate kinds inputs others n) (length places) p.0.reads (λ k x e. inside a k x p.0 p.1 e) (same_lists n))
-      ∙ sym (map_list (λ place. form_list kinds inputs n place.form (lists_of (iterate kinds inputs places n) place.reads)) places a p.0 p.1)
-
--- an element of a list that was mapped, from the list before
-map_from : (f : ℕ → ℕ) (xs : List ℕ) (k y : ℕ) → slice_get (map f xs) k ≡ Some y → (x : ℕ) × (slice_get xs k ≡ Some x) × (f x ≡ y)
-map_from f [] k y e = absurd (cc e)
-map_from f (x ∷ xs) zero y e = (x, refl, same_Some (f x) y e)
-map_from f (x ∷ xs) (suc k) y e = map_from f xs k y e
+      ∙ sym (list_at_map (λ place. form_list kinds inputs n place.form (lists_of (iterate kinds inputs places n) place.reads)) places a p.0 p.1)
 
 module _ (net : Net) (proper : IsProper net) where
   -- the rings from which an actor takes are there

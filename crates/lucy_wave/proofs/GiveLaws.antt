@@ -1,39 +1,29 @@
 -- A net with one output more, over its lists of actors and rings.
-use Rattle.std.proofs.Common.{ℕ, suc, zero, ◌+◌, ◌-◌, ◌<◌, ◌≤◌, ◌≡◌, ◌≢◌, ◌⊎◌, List, [], ◌∷◌, ◌++◌, Some, length, map, take, drop, get_or, set, ap, sym, refl, ◌∙◌, inl, inr, append_assoc, arith}
+use Rattle.std.proofs.Common.{ℕ, suc, zero, ◌+◌, ◌-◌, ◌<◌, ◌≤◌, ◌≡◌, ◌≢◌, ◌⊎◌, List, [], ◌∷◌, ◌++◌, Some, length, map, drop, get_or, set, ap, sym, refl, ◌∙◌, inl, inr, append_assoc, arith}
 use Rattle.std.specs.Prelude.{sum_by, slice_get, slice_index_or}
 use Rattle.std.specs.List.{AllByRecursion, range_with_len}
-use Rattle.std.proofs.lemmas.List.{append-nil, drop_more, length_push}
+use Rattle.std.proofs.lemmas.List.{append-nil, drop_more, length_push, drop_all}
 use Rattle.std.proofs.lemmas.List.Sums.{sum_by_push}
 use Rattle.std.proofs.lemmas.Option.{same_Some}
 use Rattle.lucy_word.specs.Bits.{Bits}
-use Rattle.lucy_stream.specs.Plans.{no_link}
+use Rattle.lucy_word.proofs.Lists.{get_push, range_more}
+use Rattle.lucy_host.proofs.Elements.{get_last}
 use Rattle.lucy_net.specs.declared.kind.ActorKind.{ActorKind}
 use Rattle.lucy_net.specs.declared.net.Actor.{Actor}
 use Rattle.lucy_net.specs.declared.net.RingSpec.{RingSpec}
 use Rattle.lucy_net.specs.declared.net.Net.{Net}
-use Rattle.lucy_net.specs.Plans.{link_of, giver, taker}
-use Rattle.lucy_net.specs.Proper.{input_of, output_of, numbers_of}
-use Rattle.lucy_flat.proofs.AssemblyLaws.{range_more}
-use Rattle.lucy_flat.proofs.ExtentLaws.{take_whole}
+use Rattle.lucy_net.specs.Plans.{giver, taker}
+use Rattle.lucy_net.specs.Proper.{input_of, output_of}
+use Rattle.lucy_net.proofs.NumberedLaws.{numbers_of}
 use Rattle.lucy_need.specs.Meeting.{Assignment}
 use Rattle.lucy_wave.specs.Seen.{IsWithin}
 use Rattle.lucy_wave.specs.Watching.{giving, give_at, output_on, ring_on, with_output, with_outputs}
 
 -- one element more, at the end
-pub get_push : {A : Type 0} (xs : List A) (y : A) (i : ℕ) (x : A) → slice_get (xs ++ y ∷ []) i ≡ Some x → (slice_get xs i ≡ Some x) ⊎ ((i ≡ length xs) × (y ≡ x))
-get_push [] y zero x e = inr (refl, same_Some y x e)
-get_push [] y (suc i) x e = absurd (cc e)
-get_push (z ∷ xs) y zero x e = inl e
-get_push (z ∷ xs) y (suc i) x e = elim (get_push xs y i x e) [ inl l ↦ inl l | inr r ↦ inr ((let s = r.0 in omega arith), r.1) ]
-
 pub push_get : {A : Type 0} (xs : List A) (y : A) (i : ℕ) (x : A) → slice_get xs i ≡ Some x → slice_get (xs ++ y ∷ []) i ≡ Some x
 push_get [] y i x e = absurd (cc e)
 push_get (z ∷ xs) y zero x e = e
 push_get (z ∷ xs) y (suc i) x e = push_get xs y i x e
-
-pub push_last : {A : Type 0} (xs : List A) (y : A) → slice_get (xs ++ y ∷ []) (length xs) ≡ Some y
-push_last [] y = refl
-push_last (z ∷ xs) y = push_last xs y
 
 pub index_push : {A B : Type 0} (f : A → B) (xs : List A) (y : A) (i : ℕ) (d : B) → i < length xs → slice_index_or (map f (xs ++ y ∷ [])) i d ≡ slice_index_or (map f xs) i d
 index_push f [] y i d h = absurd (omega arith)
@@ -133,7 +123,7 @@ module _ (net : Net) (output place : ℕ) (word : Bits) where
   last_there =
       ap (λ xs. slice_get xs (length net.actors)) actors_are
       ∙ ap (slice_get (give_at (place - 1) ring net.actors ++ last ∷ [])) (sym (give_length (place - 1) ring net.actors))
-      ∙ push_last (give_at (place - 1) ring net.actors) last
+      ∙ get_last (give_at (place - 1) ring net.actors) last
 
   -- a ring is one of before, or that of the output
   pub ring_is : (r : ℕ) (spec : RingSpec) → slice_get more.rings r ≡ Some spec → (slice_get net.rings r ≡ Some spec) ⊎ ((r ≡ ring) × (ring_on (place - 1) (length net.actors) word ≡ spec))
@@ -141,23 +131,23 @@ module _ (net : Net) (output place : ℕ) (word : Bits) where
 
   pub giver_old : (r : ℕ) → r < ring → giver more r ≡ giver net r
   giver_old r h =
-      ap (λ (xs : List RingSpec). (slice_index_or (map link_of xs) r no_link).from) rings_are
-      ∙ ap (λ l. l.from) (index_push link_of net.rings (ring_on (place - 1) (length net.actors) word) r no_link h)
+      ap (λ (xs : List RingSpec). slice_index_or (map (λ (x : RingSpec). x.from) xs) r 0) rings_are
+      ∙ index_push (λ (x : RingSpec). x.from) net.rings (ring_on (place - 1) (length net.actors) word) r 0 h
 
   pub giver_new : giver more ring ≡ place - 1
   giver_new =
-      ap (λ (xs : List RingSpec). (slice_index_or (map link_of xs) ring no_link).from) rings_are
-      ∙ ap (λ l. l.from) (index_last link_of net.rings (ring_on (place - 1) (length net.actors) word) no_link)
+      ap (λ (xs : List RingSpec). slice_index_or (map (λ (x : RingSpec). x.from) xs) ring 0) rings_are
+      ∙ index_last (λ (x : RingSpec). x.from) net.rings (ring_on (place - 1) (length net.actors) word) 0
 
   pub taker_old : (r : ℕ) → r < ring → taker more r ≡ taker net r
   taker_old r h =
-      ap (λ (xs : List RingSpec). (slice_index_or (map link_of xs) r no_link).to) rings_are
-      ∙ ap (λ l. l.to) (index_push link_of net.rings (ring_on (place - 1) (length net.actors) word) r no_link h)
+      ap (λ (xs : List RingSpec). slice_index_or (map (λ (x : RingSpec). x.to) xs) r 0) rings_are
+      ∙ index_push (λ (x : RingSpec). x.to) net.rings (ring_on (place - 1) (length net.actors) word) r 0 h
 
   pub taker_new : taker more ring ≡ length net.actors
   taker_new =
-      ap (λ (xs : List RingSpec). (slice_index_or (map link_of xs) ring no_link).to) rings_are
-      ∙ ap (λ l. l.to) (index_last link_of net.rings (ring_on (place - 1) (length net.actors) word) no_link)
+      ap (λ (xs : List RingSpec). slice_index_or (map (λ (x : RingSpec). x.to) xs) ring 0) rings_are
+      ∙ index_last (λ (x : RingSpec). x.to) net.rings (ring_on (place - 1) (length net.actors) word) 0
 
   -- inputs are those of before, and there is an output more
   pub inputs_are : numbers_of input_of more.actors ≡ numbers_of input_of net.actors
@@ -188,16 +178,10 @@ outputs_more net next whole w first i place word places low is worded made befor
     ∙ ap (λ n. with_outputs n w (first + i + 1) (drop (i + 1) places)) (made ∙ ap (with_output net (first + i) place) worded)
     ∙ sym (ap (with_outputs net w (first + i)) split) ∙ before
 
-drop_past : {A : Type 0} (xs : List A) (i : ℕ) → length xs ≤ i → drop i xs ≡ []
-drop_past [] zero h = refl
-drop_past [] (suc i) h = refl
-drop_past (x ∷ xs) zero h = absurd (omega arith)
-drop_past (x ∷ xs) (suc i) h = drop_past xs i (omega arith)
-
 -- none is left
 pub outputs_done : (net whole : Net) (w : Assignment) (first i : ℕ) (places : List ℕ) → length places ≤ i → with_outputs net w first (drop i places) ≡ whole → net ≡ whole
 unfolding with_outputs
-outputs_done net whole w first i places past before = sym (ap (with_outputs net w first) (drop_past places i past)) ∙ before
+outputs_done net whole w first i places past before = sym (ap (with_outputs net w first) (drop_all i places past)) ∙ before
 
 -- what a net has once it has an output more
 pub output_made : (net : Net) (to ring output place : ℕ) (word : Bits) (actor : Actor) (spec : RingSpec) (given actors : List Actor) (rings : List RingSpec) → to ≡ length net.actors → ring ≡ length net.rings → actor ≡ output_on output ring word →
@@ -209,7 +193,3 @@ output_made net to ring output place word actor spec given actors rings a b c d 
     let second : rings ≡ net.rings ++ ring_on (place - 1) (length net.actors) word ∷ [] = g ∙ ap (λ x. net.rings ++ x ∷ []) d ∙ ap (λ n. net.rings ++ ring_on (place - 1) n word ∷ []) a in
     let made : (xs : List Actor) (ys : List RingSpec) → Net = λ xs ys. record { actors = xs; rings = ys } in
     ap (λ xs. made xs rings) first ∙ ap (made (give_at (place - 1) (length net.rings) net.actors ++ output_on output (length net.rings) word ∷ [])) second
-
--- a list that is written back over one as long
-pub written_back : (new old : List Actor) (len : ℕ) → length new ≡ length old → len ≡ length old → take len (new ++ drop (length new) old) ≡ new
-written_back new old len same is = ap (λ xs. take len (new ++ xs)) (drop_past old (length new) (omega arith)) ∙ ap (take len) (append-nil new) ∙ take_whole new len (omega arith)

@@ -5,22 +5,22 @@ use Rattle.std.specs.Option.{option_and_then, option_map, unwrap_or}
 use Rattle.std.specs.List.{AllByRecursion, AllPass}
 use Rattle.std.specs.Fmt.{decimal}
 use Rattle.lucy_word.specs.Bits.{Bits}
+use Rattle.lucy_word.proofs.Lists.{all_at}
 use Rattle.lucy_host.specs.Operators.{Operator}
 use Rattle.lucy_lines.specs.declared.output.OutputSpec.{OutputSpec}
 use Rattle.lucy_tree.specs.declared.span.Name.{Name}
 use Rattle.lucy_tree.specs.declared.decl.Decl.{Decl}
 use Rattle.lucy_tree.specs.View.{DefTree, NodeTree, ProgramTree}
-use Rattle.lucy_token.specs.declared.token.Kind.{Kind}
 use Rattle.lucy_token.specs.declared.token.Kind.TheVariants as kind
 use Rattle.lucy_token.specs.declared.token.Token.{Token}
 use Rattle.lucy_token.specs.declared.stop.Stop.TheVariants.{End}
-use Rattle.lucy_token.specs.Tokens.{kind_of}
 use Rattle.lucy_token.specs.Cuts.{Cuts}
 use Rattle.lucy_token.specs.Fronts.{is_name_byte}
 use Rattle.lucy_token.specs.Written.{IsWritten, AreWritten}
 use Rattle.lucy_grammar.specs.Texts.{HasTree}
-use Rattle.lucy_grammar.specs.Printable.{MayBeNamed as IsNamedSo, AllOfSome, IsPrintableDecl, IsPrintableDef, IsPrintableNode, StandAfter}
+use Rattle.lucy_grammar.specs.Printable.{MayBeNamed as IsNamedSo, AllOfSome, IsPrintableDecl, IsPrintableDef, IsPrintableNode}
 use Rattle.lucy_grammar.proofs.PrintableLaws.{printable}
+use Rattle.lucy_grammar.proofs.RoundTrip.{stand_written}
 use Rattle.lucy_place.specs.declared.entry.PlaceEntry.{PlaceEntry}
 use Rattle.lucy_place.specs.declared.entry.PlaceKind.TheVariants as place_kind
 use Rattle.lucy_place.specs.declared.placed.PlacedNode.{PlacedNode}
@@ -36,7 +36,6 @@ use Rattle.lucy_naming.proofs.NodesLaws.{are_placed}
 use Rattle.lucy_naming.proofs.ProperPrograms.{tree_at}
 use Rattle.lucy_types.specs.declared.ty.Ty.{Ty}
 use Rattle.lucy_kahn.specs.Spots.{main_of}
-use Rattle.lucy_kahn.proofs.Closed.{each_of}
 use Rattle.lucy_flat.specs.Instances.{words_in}
 use Rattle.lucy_types.specs.Tables.{table_at}
 use Rattle.lucy_program.specs.declared.accepted.Accepted.{Accepted}
@@ -54,10 +53,6 @@ AreCut = (text : List ℕ) (ts : List Token) (n : ℕ) → Cuts 0 [] text ts (En
 -- the nodes of accepted programs are proper
 abbrev pub ProgramsAreProper : Type 0
 ProgramsAreProper = (ops : List Operator) (o : Options) (text : List ℕ) (a : Accepted) → IsAccepted ops o text a → AreProper a.placed.nodes
-
-after_each : (k : Kind) (ts : List Token) → AreWritten k ts → StandAfter IsWritten k ts
-after_each k [] are = tt
-after_each k (t ∷ ts) are = (are.0, after_each (kind_of t.what) ts are.1)
 
 all_plain : (bytes : List ℕ) → AllPass is_name_byte bytes → IsPlain bytes
 all_plain [] all = tt
@@ -131,7 +126,7 @@ at_plain n all place = of (at_one n.places place) refl
   where
     there_plain : (p : ℕ) (entry : PlaceEntry) → at_one n.places p ≡ Some entry → IsPlainEntry entry
     there_plain zero entry e = absurd (cc e)
-    there_plain (suc i) entry e = each_of IsPlainEntry n.places i entry all e
+    there_plain (suc i) entry e = all_at IsPlainEntry n.places i entry all e
 
     of : (o : Option PlaceEntry) → at_one n.places place ≡ o → IsPlain (bytes_of (option_and_then (λ entry. entry.name) o))
     of None e = tt
@@ -166,12 +161,12 @@ main_tree ops o text a main is e =
 
 some_of : {A : Type 0} (P : A → Type 0) (xs : List A) (i : ℕ) (x : A) → AllOfSome P xs → slice_get xs i ≡ Some x → P x
 some_of P [] i x all e = absurd all
-some_of P (y ∷ xs) i x all e = each_of P (y ∷ xs) i x (all.0, all.1) e
+some_of P (y ∷ xs) i x all e = all_at P (y ∷ xs) i x (all.0, all.1) e
 
 pub names_plain : AreCut → ProgramsAreProper → NamesArePlain
 names_plain cut proper ops o text a main is e =
     let of = main_tree ops o text a main is e in
-    let written = after_each kind.End of.read.tokens (cut text of.read.tokens of.read.end of.read.cut) in
+    let written = stand_written kind.End of.read.tokens (cut text of.read.tokens of.read.end of.read.cut) in
     let node = some_of (IsPrintableNode IsWritten) of.program of.index of.tree (printable IsWritten kind.End of.read.tokens of.program of.read.program written) of.found in
     let above : ProgramTree = [] ++ take of.index of.program in
     let entries_are : ArePlainEntries main.places = subst (λ (n : PlacedNode). ArePlainEntries n.places) (sym of.is) (entries_plain (known_in ops above of.tree) of.tree node) in

@@ -10,9 +10,11 @@ use Rattle.lucy_host.specs.Operators.{Operator}
 use Rattle.lucy_need.specs.Meeting.{assigned}
 use Rattle.lucy_place.specs.declared.placed.PlacedNode.{PlacedNode}
 use Rattle.lucy_place.specs.Proper.{IsNamed, AreProper}
+use Rattle.lucy_place.proofs.NodeLaws.{named_place}
 use Rattle.lucy_clock.specs.declared.node_clock.NodeClock.{NodeClock}
 use Rattle.lucy_net.specs.declared.net.Net.{Net}
-use Rattle.lucy_net.specs.Proper.{output_of, numbers_of, IsProper}
+use Rattle.lucy_net.specs.Proper.{output_of, IsProper}
+use Rattle.lucy_net.proofs.NumberedLaws.{numbers_of}
 use Rattle.lucy_net.specs.Schedules.{Timetable, IsScheduleOf}
 use Rattle.lucy_core.specs.Seen.{CanMakeCore}
 use Rattle.lucy_kahn.specs.Spots.{at, main_of, results_in, IsSpot}
@@ -29,7 +31,7 @@ use Rattle.lucy_wave.specs.declared.watching.Watched.{Watched}
 use Rattle.lucy_wave.specs.Watching.{with_outputs, HasRoom, CanWatch}
 use Rattle.lucy_wave.specs.Waves.{inner_of, inner_in, CanShow, AreInside}
 use Rattle.lucy_wave.specs.Seen.{IsWithin, IsGrown, AreFed}
-use Rattle.lucy_wave.proofs.VariableLaws.{inner_named, named_place, named_within}
+use Rattle.lucy_wave.proofs.VariableLaws.{inner_named, named_within}
 use Rattle.lucy_wave.proofs.WatchLaws.{IsReady, MayHave, outputs_row, place_below, place_there, flat_grown, flat_fed, may_give, with_outputs_ready, with_outputs_keep, with_outputs_fed, ready_fixed}
 
 -- what a run has at hand: a program with its net, what this is run with, and what is asked of the net with outputs more

@@ -1,5 +1,5 @@
 -- A proper net with one output more is proper.
-use Rattle.std.proofs.Common.{ℕ, suc, zero, ◌+◌, ◌-◌, ◌<◌, ◌≡◌, ◌≢◌, eqb, List, [], ◌∷◌, ◌++◌, Some, length, ap, sym, refl, ◌∙◌, subst, inl, inr, arith}
+use Rattle.std.proofs.Common.{ℕ, ◌+◌, ◌-◌, ◌<◌, ◌≡◌, ◌≢◌, eqb, List, [], ◌∷◌, ◌++◌, Some, length, ap, sym, refl, ◌∙◌, subst, inl, inr, arith}
 use Rattle.std.specs.Prelude.{ℤ, slice_get}
 use Rattle.std.specs.List.{range_with_len}
 use Rattle.std.proofs.lemmas.Bool.{eq-eqb, ne_eqb}
@@ -7,43 +7,35 @@ use Rattle.std.proofs.lemmas.Option.{same_Some, slice_get_within}
 use Rattle.lucy_word.specs.Bits.{Bits, ones_to}
 use Rattle.lucy_word.proofs.OnLaws.{same_self}
 use Rattle.lucy_word.proofs.AdaptableLaws.{adaptable_self, size_self}
+use Rattle.lucy_host.proofs.Elements.{get_there}
 use Rattle.lucy_stream.specs.Plans.{HasInput}
 use Rattle.lucy_net.specs.declared.net.Actor.{Actor}
 use Rattle.lucy_net.specs.declared.net.RingSpec.{RingSpec}
 use Rattle.lucy_net.specs.declared.net.Net.{Net}
 use Rattle.lucy_net.specs.Plans.{form_of, giver, taker}
-use Rattle.lucy_net.specs.Proper.{output_of, numbers_of, numbers_where, IsNumbering, IsProper, IsProperActor, IsProperRing, IsWriteWord, IsSupplied}
+use Rattle.lucy_net.specs.Proper.{output_of, numbers_where, IsNumbering, IsProper, IsProperActor, IsProperRing, IsWriteWord, IsSupplied}
+use Rattle.lucy_net.proofs.NumberedLaws.{numbers_of}
 use Rattle.lucy_net.specs.States.{KnowsOperator}
-use Rattle.lucy_net.proofs.WhereLaws.{where_yes, where_no}
-use Rattle.lucy_flat.proofs.ProperLaws.{link_from, link_to, where_same, where_none, none_inner, row_numbering}
-use Rattle.lucy_flat.specs.Assembly.{from_at}
-use Rattle.lucy_kahn.proofs.JoinedLists.{there}
+use Rattle.lucy_net.proofs.NetLaws.{from_here, to_here}
+use Rattle.lucy_net.proofs.WhereLaws.{where_yes, where_no, where_same}
+use Rattle.lucy_flat.proofs.ProperLaws.{where_none, none_inner, row_numbering}
 use Rattle.lucy_wave.specs.Watching.{output_on, ring_on, with_output, HasRoom}
 use Rattle.lucy_wave.proofs.GiveLaws as give
 use Rattle.lucy_wave.proofs.GiveLaws.{IsGiving}
-
--- the ends of a ring that is there
-pub giver_is : (net : Net) (r : ℕ) (spec : RingSpec) → slice_get net.rings r ≡ Some spec → giver net r ≡ spec.from
-giver_is net r spec e = link_from net.rings r ∙ from net.rings r spec e
-  where
-    from : (rings : List RingSpec) (r : ℕ) (spec : RingSpec) → slice_get rings r ≡ Some spec → from_at rings r ≡ spec.from
-    from [] r spec e = absurd (cc e)
-    from (x ∷ rings) zero spec e = ap (λ (t : RingSpec). t.from) (same_Some x spec e)
-    from (x ∷ rings) (suc r) spec e = from rings r spec e
 
 -- the ends of rings are actors
 module _ (net : Net) (proper : IsProper net) where
   pub giver_there : (r : ℕ) → r < length net.rings → giver net r < length net.actors
   giver_there r h =
-      let spec = there net.rings r h in
+      let spec = get_there net.rings r h in
       let is = proper.rings r spec.0 spec.1 in
-      subst (λ n. n < length net.actors) (sym (giver_is net r spec.0 spec.1)) (slice_get_within net.actors spec.0.from is.giver is.gives_here)
+      subst (λ n. n < length net.actors) (sym (from_here net r spec.0 spec.1)) (slice_get_within net.actors spec.0.from is.giver is.gives_here)
 
   pub taker_there : (r : ℕ) → r < length net.rings → taker net r < length net.actors
   taker_there r h =
-      let spec = there net.rings r h in
+      let spec = get_there net.rings r h in
       let is = proper.rings r spec.0 spec.1 in
-      subst (λ n. n < length net.actors) (sym (link_to net.rings r spec.0 spec.1)) (slice_get_within net.actors spec.0.to is.taker is.takes_here)
+      subst (λ n. n < length net.actors) (sym (to_here net r spec.0 spec.1)) (slice_get_within net.actors spec.0.to is.taker is.takes_here)
 
 -- an actor that may have an output more, on this word
 pub record MayGive (net : Net) (place : ℕ) (word : Bits) : Type 0 where

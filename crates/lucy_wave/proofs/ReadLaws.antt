@@ -1,13 +1,14 @@
 -- How the lines of a dump are read.
-use Rattle.std.proofs.Common.{ℕ, suc, zero, ◌+◌, ◌-◌, ◌/◌, ◌%◌, ◌<◌, ◌≤◌, ◌^◌, ◌≡◌, ◌≢◌, ◌⊎◌, Bool, true, false, not, ◌||◌, List, [], ◌∷◌, ◌++◌, length, Option, Some, None, refl, ap, ap₂, sym, ◌∙◌, subst, inl, inr, append_assoc, arith}
+use Rattle.std.proofs.Common.{ℕ, suc, zero, ◌+◌, ◌-◌, ◌/◌, ◌%◌, ◌<◌, ◌≤◌, ◌^◌, ◌≡◌, ◌≢◌, ◌⊎◌, Bool, true, false, not, List, [], ◌∷◌, ◌++◌, length, Option, Some, None, refl, ap, ap₂, sym, ◌∙◌, subst, inl, inr, append_assoc, arith}
 use Rattle.std.specs.Prelude.{nat_eq, nat_lt, slice_get, codes, if◌then◌else◌}
 use Rattle.std.specs.List.{AllByRecursion}
 use Rattle.std.specs.Fmt.{decimal, digits, digits_onto, digit_glyph}
 use Rattle.std.specs.Char.{digit_value}
 use Rattle.std.specs.Str.Parse.{AllDigits, digits_value}
 use Rattle.std.proofs.lemmas.Fmt.{digits_is_IsNumeral, decimal_injective}
-use Rattle.std.proofs.lemmas.Bool.{eqb-true, eqb-false}
+use Rattle.std.proofs.lemmas.Bool.{eqb-true, eqb-false, or_parts, not-false}
 use Rattle.std.proofs.lemmas.Option.{same_Some, slice_get_within}
+use Rattle.lucy_word.proofs.Lists.{still_there}
 use Rattle.lucy_wave.specs.Dumps.{Variable, code_of, declaration, declarations, time_line, bit_digit, change_line, is_changed, change, changes, steps, header, dump}
 use Rattle.lucy_wave.specs.Reading.{IsDeclared, IsTime, IsChange, ReadsFrom}
 
@@ -100,19 +101,11 @@ change_is false code zero low = inl (refl, refl)
 change_is false code (suc zero) low = inr (inl (refl, refl))
 change_is false code (suc (suc value)) low = absurd (omega arith)
 
-not_either : (a b : Bool) → (a || b) ≡ false → (a ≡ false) × (b ≡ false)
-not_either true b e = absurd (cc)
-not_either false b e = (refl, e)
-
-not_false : (b : Bool) → not b ≡ false → b ≡ true
-not_false true e = refl
-not_false false e = absurd (cc)
-
 -- what did not change is as a step before, which is not the first
 unchanged : (value : ℕ → ℕ) (t : ℕ) → is_changed value t ≡ false → (t ≢ 1) × (value t ≡ value (t - 1))
 unchanged value t e =
-    let both = not_either (nat_eq t 1) (not (nat_eq (value t) (value (t - 1)))) e in
-    (eqb-false t 1 both.0, eqb-true (value t) (value (t - 1)) (not_false (nat_eq (value t) (value (t - 1))) both.1))
+    let both = or_parts (nat_eq t 1) (not (nat_eq (value t) (value (t - 1)))) e in
+    (eqb-false t 1 both.0, eqb-true (value t) (value (t - 1)) (not-false (nat_eq (value t) (value (t - 1))) both.1))
 
 -- past a line that says nothing of a code
 module _ (code : List ℕ) (T : ℕ) (value : Option ℕ) where
@@ -238,11 +231,6 @@ pub record IsShown (lines : List (List ℕ)) (H : ℕ) (v : Variable) : Type 0 w
   pub declared : IsDeclared lines v.is_wide code v.name
   pub reads : (t : ℕ) → 1 ≤ t → t ≤ H → ReadsFrom code t None lines (Some (v.value t))
 
-slice_get_front : {A : Type 0} (xs ys : List A) (i : ℕ) (x : A) → slice_get xs i ≡ Some x → slice_get (xs ++ ys) i ≡ Some x
-slice_get_front [] ys i x e = absurd (cc)
-slice_get_front (y ∷ xs) ys zero x e = e
-slice_get_front (y ∷ xs) ys (suc i) x e = slice_get_front xs ys i x e
-
 declared_at : (vs : List Variable) (number i j : ℕ) (v : Variable) → slice_get vs i ≡ Some v → j ≡ number + i → slice_get (declarations number vs) i ≡ Some (declaration v.is_wide (code_of j) v.name)
 declared_at [] number i j v e is = absurd (cc)
 declared_at (w ∷ vs) number zero j v e is =
@@ -265,8 +253,8 @@ module _ (scope : List ℕ) (vs : List Variable) (H : ℕ) (few : length vs < 2 
     code = code_of j;
     declared = (
       suc (suc j),
-      slice_get_front (declarations 0 vs ++ (codes "$upscope $end" ∷ (codes "$enddefinitions $end" ∷ []))) (steps vs H ++ (time_line (suc H) ∷ [])) j (declaration v.is_wide (code_of j) v.name)
-          (slice_get_front (declarations 0 vs) (codes "$upscope $end" ∷ (codes "$enddefinitions $end" ∷ [])) j (declaration v.is_wide (code_of j) v.name) (declared_at vs 0 j j v at (omega arith))),
+      still_there (declarations 0 vs ++ (codes "$upscope $end" ∷ (codes "$enddefinitions $end" ∷ []))) (steps vs H ++ (time_line (suc H) ∷ [])) j (declaration v.is_wide (code_of j) v.name)
+          (still_there (declarations 0 vs) (codes "$upscope $end" ∷ (codes "$enddefinitions $end" ∷ [])) j (declaration v.is_wide (code_of j) v.name) (declared_at vs 0 j j v at (omega arith))),
     );
     reads = λ t some within. reads_at j t v at may some within;
   }

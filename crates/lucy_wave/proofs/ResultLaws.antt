@@ -1,22 +1,23 @@
 -- The results of an accepted program's main stand once each.
 use Rattle.std.proofs.Common.{ℕ, suc, ◌+◌, ◌-◌, ◌≤◌, ◌≡◌, ◌||◌, Bool, true, false, not, cond, List, [], ◌∷◌, ◌++◌, Some, length, map, take, ap, sym, refl, ◌∙◌, subst, arith, length-append}
-use Rattle.std.specs.Prelude.{slice_get, if◌then◌else◌}
+use Rattle.std.specs.Prelude.{slice_get}
 use Rattle.std.specs.List.{list_any, position_or_len}
 use Rattle.std.proofs.lemmas.Cmp.{nat_list_eq_equiv}
 use Rattle.std.proofs.lemmas.Option.{same_Some}
 use Rattle.lucy_word.specs.Bits.{Bits}
+use Rattle.lucy_word.proofs.Lists.{front_empty, back_empty}
 use Rattle.lucy_tree.specs.declared.span.Name.{Name}
 use Rattle.lucy_types.specs.declared.ty.Ty.{Ty}
 use Rattle.lucy_types.specs.Tables.{table_at}
-use Rattle.lucy_naming.specs.declared.error.NameError.{NameError}
 use Rattle.lucy_place.specs.declared.placed.PlacedNode.{PlacedNode}
 use Rattle.lucy_naming.specs.Texts.{is_text, is_in, place_in}
 use Rattle.lucy_naming.specs.Streams.{streams as streams_in}
 use Rattle.lucy_naming.specs.Views.{text_of}
-use Rattle.lucy_naming.specs.Faults.{unless, result_fault, result_faults}
-use Rattle.lucy_naming.proofs.VerdictLaws.{none_front, none_back}
+use Rattle.lucy_naming.specs.Faults.{result_fault, result_faults}
 use Rattle.lucy_naming.proofs.NodeFaults.{results_faultless}
 use Rattle.lucy_naming.proofs.ProperPrograms.{node_good}
+use Rattle.lucy_naming.proofs.ResultLaws.{no_fault}
+use Rattle.lucy_naming.proofs.NameLaws.{behind_one}
 use Rattle.lucy_need.specs.Meeting.{Assignment}
 use Rattle.lucy_kahn.specs.Turns.{params_in}
 use Rattle.lucy_flat.specs.Instances.{words_in}
@@ -52,23 +53,6 @@ same_text texts t u a b e =
     let own : is_text u first.0 ≡ true = ap (is_text u) (sym same) ∙ second.2 in
     nat_list_eq_equiv.congr u first.0 t own ∙ nat_list_eq_equiv.symm first.0 t ∙ first.2
 
-no_fault : (stream twice : Bool) (e f : NameError) → (if stream then unless (not twice) e else f ∷ []) ≡ [] → (stream ≡ true) × (twice ≡ false)
-no_fault true true e f h = absurd (cc)
-no_fault true false e f h = (refl, refl)
-no_fault false twice e f h = absurd (cc)
-
-nor : (a b : Bool) → (a || b) ≡ false → (a ≡ false) × (b ≡ false)
-nor true b e = absurd (cc)
-nor false b e = (refl, e)
-
--- what isn't among texts and one more
-behind_one : (before : List (List ℕ)) (t own : List ℕ) → is_in (before ++ own ∷ []) t ≡ false → (is_in before t ≡ false) × (is_text t own ≡ false)
-behind_one [] t own e = (refl, (nor (is_text t own) false e).0)
-behind_one (x ∷ before) t own e =
-    let both = nor (is_text t x) (is_in (before ++ own ∷ []) t) e in
-    let rest = behind_one before t own both.1 in
-    (ap (λ b. b || is_in before t) both.0 ∙ rest.0, rest.1)
-
 module _ (texts : List (List ℕ)) where
   abbrev place : Name → ℕ
   place r = place_in texts r.text + 1
@@ -76,8 +60,8 @@ module _ (texts : List (List ℕ)) where
   later : (x : Name) (before : List (List ℕ)) (rs : List Name) → is_in texts x.text ≡ true → ((y : List ℕ) → is_in before y ≡ false → is_text y x.text ≡ false) → result_faults texts before rs ≡ [] → IsUnlike (place x) (map place rs)
   later x before [] is out h = tt
   later x before (r ∷ rs) is out h =
-      let own = no_fault _ _ _ _ (none_front (result_fault texts before r) (result_faults texts (before ++ r.text ∷ []) rs) h) in
-      let rest = none_back (result_fault texts before r) (result_faults texts (before ++ r.text ∷ []) rs) h in (
+      let own = no_fault _ _ _ _ (front_empty (result_fault texts before r) (result_faults texts (before ++ r.text ∷ []) rs) h) in
+      let rest = back_empty (result_fault texts before r) (result_faults texts (before ++ r.text ∷ []) rs) h in (
         (λ e. (let at : place_in texts x.text ≡ place_in texts r.text = omega arith in
             let never : true ≡ false = sym (same_text texts x.text r.text is own.0 at) ∙ out r.text own.1 in cc never)),
         later x (before ++ r.text ∷ []) rs is (λ y k. out y (behind_one before y r.text k).0) rest,
@@ -86,8 +70,8 @@ module _ (texts : List (List ℕ)) where
   unlike : (before : List (List ℕ)) (rs : List Name) → result_faults texts before rs ≡ [] → AreUnlike (map place rs)
   unlike before [] h = tt
   unlike before (r ∷ rs) h =
-      let own = no_fault _ _ _ _ (none_front (result_fault texts before r) (result_faults texts (before ++ r.text ∷ []) rs) h) in
-      let rest = none_back (result_fault texts before r) (result_faults texts (before ++ r.text ∷ []) rs) h in
+      let own = no_fault _ _ _ _ (front_empty (result_fault texts before r) (result_faults texts (before ++ r.text ∷ []) rs) h) in
+      let rest = back_empty (result_fault texts before r) (result_faults texts (before ++ r.text ∷ []) rs) h in
       (later r (before ++ r.text ∷ []) rs own.0 (λ y k. (behind_one before y r.text k).1) rest, unlike (before ++ r.text ∷ []) rs rest)
 
 -- buffers are no more than all variables

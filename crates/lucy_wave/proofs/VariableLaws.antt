@@ -6,27 +6,26 @@ use Rattle.std.specs.Option.{unwrap_or}
 use Rattle.std.proofs.lemmas.List.{drop_more, take_more}
 use Rattle.std.proofs.lemmas.Option.{get_or_from_slice_get}
 use Rattle.lucy_word.specs.Bits.{Bits}
+use Rattle.lucy_word.proofs.Lists.{drop_next, all_join}
 use Rattle.lucy_lines.specs.declared.output.OutputSpec.{OutputSpec}
 use Rattle.lucy_place.specs.declared.entry.PlaceEntry.{PlaceEntry}
-use Rattle.lucy_place.specs.declared.entry.PlaceKind.TheVariants.{Buffer}
 use Rattle.lucy_place.specs.declared.placed.PlacedNode.{PlacedNode}
 use Rattle.lucy_tree.specs.declared.span.Name.{Name}
-use Rattle.lucy_place.specs.Proper.{at_one, IsNamed, IsProperNode, IsProperKind, Stands, IsPlace}
-use Rattle.lucy_types.proofs.ListLaws.{at_one_within}
+use Rattle.lucy_place.specs.Proper.{at_one, IsNamed}
+use Rattle.lucy_place.proofs.NodeLaws.{named_place}
 use Rattle.lucy_need.specs.Meeting.{Assignment}
-use Rattle.lucy_clock.specs.Clocks.{clocks_of}
 use Rattle.lucy_program.specs.Report.{first_operand}
 use Rattle.lucy_wave.specs.Dumps.{Variable}
 use Rattle.lucy_wave.specs.Waves.{Fit, there, waits, stream, results, input, inputs, written_name, is_outer, inner_place, inner_places, inner_of, there_bits, with_items, buffers}
 use Rattle.lucy_wave.specs.Seen.{IsWithin}
 use Rattle.lucy_wave.proofs.ReadLaws.{either}
-use Rattle.lucy_wave.proofs.PieceLaws.{pieces, item_split, items_split}
+use Rattle.lucy_wave.proofs.PieceLaws.{pieces, items_split}
 
 -- one result more
 pub results_more : (outputs : List OutputSpec) (streams : List (List ℤ)) (i : ℕ) (o : OutputSpec) (items : List ℤ) (old new whole : List Variable) → i < length outputs → o ≡ get_or outputs i o → slice_get streams i ≡ Some items →
     i < length streams → new ≡ old ++ stream o.name o.word items → old ++ results (drop i outputs) (drop i streams) ≡ whole → new ++ results (drop (i + 1) outputs) (drop (i + 1) streams) ≡ whole
 results_more outputs streams i o items old new whole h is at k more before =
-    let split = ap₂ results (item_split outputs i o h is) (items_split streams i items at k) in
+    let split = ap₂ results (drop_next outputs i o h is) (items_split streams i items at k) in
     pieces old new whole (stream o.name o.word items) _ _ more split before
 
 -- those so far fit
@@ -59,7 +58,7 @@ places_more n entries i place entry old new whole h is at more before =
     let next : 1 + i + 1 ≡ 1 + (i + 1) = omega arith in
     let here : 1 + i ≡ place = omega arith in
     let split : inner_places n (1 + i) (drop i entries) ≡ inner_place n place entry.name ++ inner_places n (1 + (i + 1)) (drop (i + 1) entries) =
-    ap (inner_places n (1 + i)) (item_split entries i entry h is)
+    ap (inner_places n (1 + i)) (drop_next entries i entry h is)
     ∙ ap₂ (λ x p. x ++ inner_places n p (drop (i + 1) entries)) (ap (λ p. inner_place n p entry.name) here) next in
     pieces old new whole (inner_place n place entry.name) _ _ more split before
 
@@ -95,23 +94,16 @@ inner_of_name : (n : PlacedNode) (place : ℕ) (entry : PlaceEntry) → at_one n
 inner_of_name n place entry e None f = tt
 inner_of_name n place entry e (Some name) f = either (AllByRecursion (IsNamed n)) (is_outer n place) [] (place ∷ []) tt ((entry, name, e, f), tt)
 
-all_joined : {A : Type 0} (P : A → Type 0) (xs ys : List A) → AllByRecursion P xs → AllByRecursion P ys → AllByRecursion P (xs ++ ys)
-all_joined P [] ys all more = more
-all_joined P (x ∷ xs) ys all more = (all.0, all_joined P xs ys all.1 more)
-
 inner_from : (n : PlacedNode) (place : ℕ) (entries : List PlaceEntry) → ((i : ℕ) (entry : PlaceEntry) → slice_get entries i ≡ Some entry → at_one n.places (place + i) ≡ Some entry) → AllByRecursion (IsNamed n) (inner_places n place entries)
 inner_from n place [] there_are = tt
 inner_from n place (entry ∷ entries) there_are =
     let z : place + 0 ≡ place = omega arith in
     let own : at_one n.places place ≡ Some entry = ap (at_one n.places) (sym z) ∙ there_are 0 entry refl in
-    all_joined (IsNamed n) (inner_place n place entry.name) (inner_places n (place + 1) entries) (inner_of_name n place entry own entry.name refl)
+    all_join (IsNamed n) (inner_place n place entry.name) (inner_places n (place + 1) entries) (inner_of_name n place entry own entry.name refl)
     (inner_from n (place + 1) entries (λ i x e. (let s : place + 1 + i ≡ place + suc i = omega arith in ap (at_one n.places) s ∙ there_are (suc i) x e)))
 
 pub inner_named : (n : PlacedNode) → AllByRecursion (IsNamed n) (inner_of n)
 inner_named n = inner_from n 1 n.places (λ i entry e. (let s : 1 + i ≡ suc i = omega arith in ap (at_one n.places) s ∙ e))
-
-pub named_place : (n : PlacedNode) (p : ℕ) → IsNamed n p → IsPlace n p
-named_place n p named = let own = at_one_within n.places p named.0 named.2 in (own.0, own.1)
 
 pub named_within : (n : PlacedNode) (actors words : ℕ) (places : List ℕ) → length n.places ≤ actors → length n.places < words → AllByRecursion (IsNamed n) places → AllByRecursion (IsWithin actors words) places
 named_within n actors words [] few many all = tt
@@ -139,12 +131,3 @@ buffers_more n w places i number p operand write read old new whole h is at by w
     ap (buffers n w (1 + i)) (drop_more places i 0 h ∙ ap (λ q. q ∷ drop (i + 1) places) (sym is))
     ∙ ap₂ (λ x q. x ∷ buffers n w q (drop (i + 1) places)) (ap₂ (λ k x. waits k x (w p)) here writes ∙ ap (waits number write) (sym read_is)) next in
     pieces old new whole (waits number write read ∷ []) _ _ more split before
-
--- a buffer and what it reads are places
-pub buffer_places : (above : List PlacedNode) (n : PlacedNode) (p k e : ℕ) → IsProperNode above n → Stands n p (Buffer k e) → (e < clocks_of n) × (p < clocks_of n)
-buffer_places above n p k e proper stands =
-    let own = at_one_within n.places p stands.0 stands.1 in
-    let kind = subst (λ x. IsProperKind n p x) stands.2 (proper.kinds p stands.0 stands.1) in
-    let read : IsPlace n e = kind.2 in
-    let low = own.1 in
-    let high = read.1 in (omega arith, omega arith)

@@ -9,6 +9,7 @@ use Rattle.lucy_word.specs.Shortest.{Same}
 use Rattle.lucy_word.specs.Limits.{limit_number}
 use Rattle.lucy_word.specs.declared.limit.Limit.TheVariants as limit
 use Rattle.lucy_host.specs.Operators.{Operator}
+use Rattle.lucy_host.proofs.Elements.{get_there}
 use Rattle.lucy_stream.specs.Items.{list_at}
 use Rattle.lucy_stream.specs.Iterates.{iterate}
 use Rattle.lucy_place.specs.declared.placed.PlacedNode.{PlacedNode}
@@ -21,14 +22,14 @@ use Rattle.lucy_net.specs.declared.net.Actor.{Actor}
 use Rattle.lucy_net.specs.declared.net.Net.{Net}
 use Rattle.lucy_net.specs.Plans.{form_of, giver}
 use Rattle.lucy_net.specs.Causal.{net_places}
-use Rattle.lucy_net.specs.Proper.{output_of, numbers_of, IsProper, IsWriteWord, IsSupplied}
+use Rattle.lucy_net.specs.Proper.{output_of, IsProper, IsWriteWord, IsSupplied}
+use Rattle.lucy_net.proofs.NumberedLaws.{numbers_of}
 use Rattle.lucy_net.specs.States.{KnowsOperator}
 use Rattle.lucy_net.specs.Schedules.{Timetable, IsScheduleOf}
 use Rattle.lucy_core.specs.Seen.{CanMakeCore}
 use Rattle.lucy_kahn.specs.Spots.{at, main_of, spot_form, results_in, IsSpot}
 use Rattle.lucy_kahn.specs.Sizes.{all_places}
 use Rattle.lucy_kahn.specs.Numbers.{number}
-use Rattle.lucy_kahn.proofs.JoinedLists.{there}
 use Rattle.lucy_kahn.proofs.Closed.{place_spot}
 use Rattle.lucy_kahn.proofs.Paths.{is_at}
 use Rattle.lucy_kahn.proofs.Numbered.{number_below, number_reached}
@@ -99,7 +100,7 @@ module _ (nodes : List PlacedNode) (clocks : List NodeClock) (net : Net) (proper
       last_own i x e =
           let g = get_drop (all_places nodes) net.actors i x e in
           let within = slice_get_within net.actors (all_places nodes + i) x g in
-          let result = there (results_in (main_of nodes)) i (omega (arith, flat.count)) in
+          let result = get_there (results_in (main_of nodes)) i (omega (arith, flat.count)) in
           let of = flat.outputs i result.0 result.1 in
           let same : of.actor ≡ x = same_Some of.actor x (sym of.there ∙ g) in
           let z : i ≡ 0 + i = omega arith in

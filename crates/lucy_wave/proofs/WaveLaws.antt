@@ -4,7 +4,7 @@ use Rattle.std.specs.Prelude.{ℤ, slice_get, IfSome}
 use Rattle.std.proofs.lemmas.List.{length-map}
 use Rattle.std.specs.List.{AllByRecursion}
 use Rattle.lucy_word.specs.Bits.{Bits}
-use Rattle.lucy_word.specs.declared.error.OutOfMemory.{OutOfMemory}
+use Rattle.std.specs.declared.alloc.AllocError.{AllocError}
 use Rattle.lucy_host.specs.declared.kind.HostKind.{HostKind}
 use Rattle.lucy_lines.specs.Fronts.{most_bytes}
 use Rattle.lucy_lines.specs.declared.reader.TextFault.{TextFault}
@@ -71,7 +71,7 @@ module _ (kinds : List HostKind) (a : Accepted) (given : Option ℕ) where
   wave_given_up before after taken stop o read asked = (taken, stop, read, asked, ([], inl refl, unwritten o))
 
   -- main was fed, and the dump was written or not
-  pub wave_done : (before after : SeenSource) (was now : SeenSink) (result : Ending) (feed : Feed) (answer : Result Feed OutOfMemory) (clocks : List NodeClock) (outputs : List OutputSpec) (taken : List ℕ) (stop : ReadStop) →
+  pub wave_done : (before after : SeenSource) (was now : SeenSink) (result : Ending) (feed : Feed) (answer : Result Feed AllocError) (clocks : List NodeClock) (outputs : List OutputSpec) (taken : List ℕ) (stop : ReadStop) →
       Read most_bytes before after taken stop → IsAsked a.inputs.items taken → IsMainFeed a.inputs.items taken stop answer → answer ≡ Ok feed → clocks ≡ a.clocks.items → outputs ≡ a.outputs.items →
       (horizon : ℕ) × IsHorizonOf (param_words a.placed.nodes clocks) given feed.items horizon × LeavesOwed (Waves kinds a.placed.nodes clocks a.net outputs given feed.items feed.stop horizon) was now result →
       WaveGives before after was now result

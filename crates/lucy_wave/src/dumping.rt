@@ -8,11 +8,10 @@ ghost use Rattle.lucy_wave.specs.Seen.{seen, all_seen};
 use crate::naming::{put_bytes, put_name};
 use crate::variable::Variable;
 use lucy_host::Inputs;
-use lucy_word::OutOfMemory;
-use std::alloc::Global;
+use std::alloc::{AllocError, Global};
 
 // The kind of a variable and its number of bits.
-fn put_kind(is_wide: bool, out: &mut Vec<u8>) -> Result<(), OutOfMemory>
+fn put_kind(is_wide: bool, out: &mut Vec<u8>) -> Result<(), AllocError>
     ensures { OnOk result (out.new.items ≡ out.old.items ++ kind_of is_wide) }
 {
     if is_wide {
@@ -23,7 +22,7 @@ fn put_kind(is_wide: bool, out: &mut Vec<u8>) -> Result<(), OutOfMemory>
 }
 
 // The code of a variable, by its number from 0, and a blank.
-fn put_code(alloc: Global, number: usize, out: &mut Vec<u8>) -> Result<(), OutOfMemory>
+fn put_code(alloc: Global, number: usize, out: &mut Vec<u8>) -> Result<(), AllocError>
     ensures { OnOk result (out.new.items ≡ out.old.items ++ (code_of number ++ codes " ")) }
 {
     put_bytes(format!(in alloc; "v{number} ")?.as_bytes(), out)
@@ -35,7 +34,7 @@ fn put_declaration(
     variable: &Variable<'_>,
     number: usize,
     out: &mut Vec<u8>,
-) -> Result<(), OutOfMemory>
+) -> Result<(), AllocError>
     ensures { OnOk result (out.new.items ≡ out.old.items ++ text_of (spec.declaration (seen variable.now).is_wide (code_of number) (seen variable.now).name ∷ [])) }
 {
     put_bytes(b"$var ", out)?;
@@ -50,7 +49,7 @@ fn put_declarations(
     alloc: Global,
     variables: &[Variable<'_>],
     out: &mut Vec<u8>,
-) -> Result<(), OutOfMemory>
+) -> Result<(), AllocError>
     ensures { OnOk result (out.new.items ≡ out.old.items ++ text_of (spec.declarations 0 (all_seen variables.now))) }
 {
     'each: for (i, variable) in variables.iter().enumerate() {
@@ -65,7 +64,7 @@ fn put_header(
     scope: &[u8],
     variables: &[Variable<'_>],
     out: &mut Vec<u8>,
-) -> Result<(), OutOfMemory>
+) -> Result<(), AllocError>
     ensures { OnOk result (out.new.items ≡ out.old.items ++ text_of (spec.header scope.now (all_seen variables.now))) }
 {
     put_bytes(b"$timescale 1 ns $end\n$scope module ", out)?;
@@ -76,7 +75,7 @@ fn put_header(
 }
 
 // The line with which a step begins.
-fn put_time(alloc: Global, step: u64, out: &mut Vec<u8>) -> Result<(), OutOfMemory>
+fn put_time(alloc: Global, step: u64, out: &mut Vec<u8>) -> Result<(), AllocError>
     ensures { OnOk result (out.new.items ≡ out.old.items ++ text_of (spec.time_line step ∷ [])) }
 {
     put_bytes(format!(in alloc; "#{step}\n")?.as_bytes(), out)
@@ -89,7 +88,7 @@ fn put_value(
     number: usize,
     value: u64,
     out: &mut Vec<u8>,
-) -> Result<(), OutOfMemory>
+) -> Result<(), AllocError>
     ensures { OnOk result (out.new.items ≡ out.old.items ++ text_of (spec.change_line is_wide (code_of number) value ∷ [])) }
 {
     if is_wide {
@@ -108,7 +107,7 @@ fn put_change(
     number: usize,
     step: u64,
     out: &mut Vec<u8>,
-) -> Result<(), OutOfMemory>
+) -> Result<(), AllocError>
     requires { 1 ≤ step }
     ensures { OnOk result (out.new.items ≡ out.old.items ++ text_of (spec.change number (seen variable.now) step)) }
 {
@@ -125,7 +124,7 @@ fn put_changes(
     variables: &[Variable<'_>],
     step: u64,
     out: &mut Vec<u8>,
-) -> Result<(), OutOfMemory>
+) -> Result<(), AllocError>
     requires { 1 ≤ step }
     ensures { OnOk result (out.new.items ≡ out.old.items ++ text_of (spec.changes 0 (all_seen variables.now) step)) }
 {
@@ -141,7 +140,7 @@ fn put_steps(
     variables: &[Variable<'_>],
     count: u64,
     out: &mut Vec<u8>,
-) -> Result<(), OutOfMemory>
+) -> Result<(), AllocError>
     ensures { OnOk result (out.new.items ≡ out.old.items ++ text_of (spec.steps (all_seen variables.now) count)) }
 {
     'each: for before in 0..count {
@@ -158,7 +157,7 @@ pub(crate) fn put_dump(
     variables: &[Variable<'_>],
     count: u64,
     out: &mut Vec<u8>,
-) -> Result<(), OutOfMemory>
+) -> Result<(), AllocError>
     requires { count < 2 ^ 64 - 1 }
     ensures { OnOk result (out.new.items ≡ out.old.items ++ text_of (dump scope.now (all_seen variables.now) count)) }
 {
@@ -168,7 +167,7 @@ pub(crate) fn put_dump(
 }
 
 /// Puts the line last that says that the items of inner streams are left out, unless they are known.
-pub(crate) fn put_notes(inside: &Option<Inputs>, out: &mut Vec<u8>) -> Result<(), OutOfMemory>
+pub(crate) fn put_notes(inside: &Option<Inputs>, out: &mut Vec<u8>) -> Result<(), AllocError>
     ensures { OnOk result (out.new.items ≡ out.old.items ++ text_of (notes inside.now)) }
 {
     match inside {

@@ -18,7 +18,7 @@ use lucy_lines::OutputSpec;
 use lucy_place::{Placed, PlacedNode};
 use lucy_program::first_operand;
 use lucy_tree::Name;
-use lucy_word::{OutOfMemory, Word};
+use lucy_word::Word;
 use std::alloc::{AllocError, Global};
 
 // One more variable.
@@ -192,7 +192,7 @@ fn add_inner(
 }
 
 /// The places of main's inner streams, in order.
-pub(crate) fn inner_places(alloc: Global, node: &PlacedNode) -> Result<Vec<u32>, OutOfMemory>
+pub(crate) fn inner_places(alloc: Global, node: &PlacedNode) -> Result<Vec<u32>, AllocError>
     requires few { length node.now.places < 2 ^ 32 - 1 }
     ensures places { IfOk result (λ v. v.items ≡ inner_of node.now) }
     ensures few { IfOk result (λ v. length v.items ≤ length node.now.places) }
@@ -293,7 +293,7 @@ pub(crate) fn variables<'a>(
     lists: &'a Inputs,
     streams: &'a Inputs,
     inside: &'a Option<Inputs>,
-) -> Result<Vec<Variable<'a>>, OutOfMemory>
+) -> Result<Vec<Variable<'a>>, AllocError>
     requires proper { (above : List Node) × IsProperNode above node.now }
     requires words { length words.now ≡ clocks_of node.now }
     requires lists { length lists.now ≡ node.now.params }

@@ -25,8 +25,7 @@ use lucy_host::{Host, Inputs};
 use lucy_net::{Net, Schedule};
 use lucy_place::Placed;
 use lucy_results::nets_can_be_run;
-use lucy_word::OutOfMemory;
-use std::alloc::Global;
+use std::alloc::{AllocError, Global};
 
 /// What a run has: the items of main's inputs, the streams of its results, and, where they are known, those of its inner places.
 #[derive(Drop)]
@@ -37,12 +36,7 @@ pub(crate) struct Played {
 }
 
 // One more list, under the next number.
-fn add(
-    alloc: Global,
-    lists: &mut Inputs,
-    number: u32,
-    list: &[i64],
-) -> Result<(), lucy_host::OutOfMemory>
+fn add(alloc: Global, lists: &mut Inputs, number: u32, list: &[i64]) -> Result<(), AllocError>
     requires next { number ≡ length lists.old }
     requires room { number < 2 ^ 32 - 1 }
     ensures { OnOk result (lists.new ≡ lists.old ++ list.now ∷ []) }
@@ -62,7 +56,7 @@ fn streams_of(
     core: &Core,
     first: u32,
     places: &[u32],
-) -> Result<Inputs, OutOfMemory>
+) -> Result<Inputs, AllocError>
     requires fed { AreFed placed.now.nodes clocks.now core.now.net first places.now }
     requires grown { IsGrown placed.now.nodes core.now.net }
     requires over { IsOver core.now }
@@ -71,10 +65,7 @@ fn streams_of(
 {
     let mut lists = Inputs::new(alloc);
     'each: for i in 0..places.len() {
-        match add(alloc, &mut lists, i as u32, core.output(first + i as u32)) {
-            Ok(()) => {}
-            Err(_) => return Err(OutOfMemory),
-        }
+        add(alloc, &mut lists, i as u32, core.output(first + i as u32))?;
     }
     Ok(lists)
 }
@@ -87,7 +78,7 @@ fn finished<F: Fn(u32, i64, i64) -> i64 + Sync>(
     host: &Host<F>,
     lists: Inputs,
     instants: u64,
-) -> Result<Core, OutOfMemory>
+) -> Result<Core, AllocError>
     requires serves { Serves F.pre F.post host.now }
     requires fixed { CanMakeCore net schedule lists (lent host.now) instants }
     ensures over { IfOk result (λ core. IsOver core) }
@@ -119,7 +110,7 @@ fn play_results<F: Fn(u32, i64, i64) -> i64 + Sync>(
     lists: Inputs,
     instants: u64,
     results: &[u32],
-) -> Result<Played, OutOfMemory>
+) -> Result<Played, AllocError>
     requires serves { Serves F.pre F.post host.now }
     requires fixed { CanMakeCore net schedule lists (lent host.now) instants }
     requires grown { IsGrown placed.now.nodes net }
@@ -147,7 +138,7 @@ fn all_streams(
     core: &Core,
     results: &[u32],
     places: &[u32],
-) -> Result<(Inputs, Inputs), OutOfMemory>
+) -> Result<(Inputs, Inputs), AllocError>
     requires fed { AreFed placed.now.nodes clocks.now core.now.net 0 results.now }
     requires fed_too { AreFed placed.now.nodes clocks.now core.now.net (length results.now) places.now }
     requires grown { IsGrown placed.now.nodes core.now.net }
@@ -173,7 +164,7 @@ fn play_all<F: Fn(u32, i64, i64) -> i64 + Sync>(
     instants: u64,
     results: &[u32],
     places: &[u32],
-) -> Result<Played, OutOfMemory>
+) -> Result<Played, AllocError>
     requires serves { Serves F.pre F.post host.now }
     requires fixed { CanMakeCore watched.net watched.schedule lists (lent host.now) instants }
     requires grown { IsGrown placed.now.nodes watched.net }
@@ -208,7 +199,7 @@ pub(crate) fn play<F: Fn(u32, i64, i64) -> i64 + Sync>(
     host: &Host<F>,
     lists: Inputs,
     instants: u64,
-) -> Result<Played, OutOfMemory>
+) -> Result<Played, AllocError>
     requires clocked { AreClocked placed.now.nodes clocks.now }
     requires flat { IsFlat placed.now.nodes clocks.now net }
     requires sound { IsSound net (events_at schedule) }

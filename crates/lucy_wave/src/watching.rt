@@ -14,7 +14,7 @@ use lucy_net::{
     Actor, ActorKind, Actors, CauseFault, Net, Numbers, RingSpec, Rings, Schedule,
     nets_have_one_answer, schedule_of,
 };
-use lucy_word::{Limit, OutOfMemory, Word};
+use lucy_word::{Limit, Word};
 use std::alloc::{AllocError, Global};
 
 /// A net with outputs more, and its schedule.
@@ -40,7 +40,7 @@ fn push<T: Drop>(list: &mut Vec<T>, next: T) -> Result<(), AllocError>
 }
 
 // Equal actors.
-fn copy_actors(alloc: Global, actors: &[Actor]) -> Result<Vec<Actor>, OutOfMemory>
+fn copy_actors(alloc: Global, actors: &[Actor]) -> Result<Vec<Actor>, AllocError>
     ensures { IfOk result (λ copies. copies.items ≡ actors.now) }
 {
     let mut copies = Vec::new(alloc);
@@ -58,7 +58,7 @@ fn ring_of(
     write: &Word,
     read: &Word,
     size: u64,
-) -> Result<RingSpec, OutOfMemory>
+) -> Result<RingSpec, AllocError>
     ensures { IfOk result (λ ring. ring ≡ record { from = from; to = to; write = write.now; read = read.now; size = size }) }
 {
     let write = write.copy(alloc)?;
@@ -73,7 +73,7 @@ fn ring_of(
 }
 
 // Equal rings.
-fn copy_rings(alloc: Global, rings: &[RingSpec]) -> Result<Vec<RingSpec>, OutOfMemory>
+fn copy_rings(alloc: Global, rings: &[RingSpec]) -> Result<Vec<RingSpec>, AllocError>
     ensures { IfOk result (λ copies. copies.items ≡ rings.now) }
 {
     let mut copies = Vec::new(alloc);
@@ -92,7 +92,7 @@ fn copy_rings(alloc: Global, rings: &[RingSpec]) -> Result<Vec<RingSpec>, OutOfM
 }
 
 // The parts of a net, once more.
-fn draft_of(alloc: Global, net: &Net) -> Result<Draft, OutOfMemory>
+fn draft_of(alloc: Global, net: &Net) -> Result<Draft, AllocError>
     ensures { IfOk result (λ draft. net_of draft ≡ net.now) }
 {
     let actors = copy_actors(alloc, net.actors.list())?;
@@ -119,7 +119,7 @@ fn one_more(alloc: Global, numbers: &Numbers, number: u32) -> Result<Numbers, Al
 }
 
 // An output that takes from a ring, on this word.
-fn output_on(alloc: Global, output: u32, ring: u32, word: &Word) -> Result<Actor, OutOfMemory>
+fn output_on(alloc: Global, output: u32, ring: u32, word: &Word) -> Result<Actor, AllocError>
     ensures { IfOk result (λ actor. actor ≡ spec.output_on output ring word.now) }
 {
     let firing = word.copy(alloc)?;
@@ -150,7 +150,7 @@ fn add_actor(
     output: u32,
     ring: u32,
     word: &Word,
-) -> Result<(), OutOfMemory>
+) -> Result<(), AllocError>
     ensures { OnOk result (actors.new.items ≡ actors.old.items ++ spec.output_on output ring word.now ∷ []) }
 {
     let actor = output_on(alloc, output, ring, word)?;
@@ -165,7 +165,7 @@ fn add_ring(
     from: u32,
     to: u32,
     word: &Word,
-) -> Result<(), OutOfMemory>
+) -> Result<(), AllocError>
     ensures { OnOk result (rings.new.items ≡ rings.old.items ++ spec.ring_on from to word.now ∷ []) }
 {
     let ring = ring_of(alloc, from, to, word, word, 0)?;
@@ -180,7 +180,7 @@ fn add_output(
     output: u32,
     place: u32,
     word: &Word,
-) -> Result<(), OutOfMemory>
+) -> Result<(), AllocError>
     requires low { 1 ≤ place }
     requires high { place ≤ length draft.old.actors.items }
     requires few { length draft.old.actors.items < 2 ^ 32 }
@@ -202,7 +202,7 @@ fn with_outputs(
     words: &[Word],
     first: u32,
     places: &[u32],
-) -> Result<Net, OutOfMemory>
+) -> Result<Net, AllocError>
     requires within { AllByRecursion (IsWithin (length net.now.actors) (length words.now)) places.now }
     requires few { length net.now.actors + length places.now < 2 ^ 31 }
     requires few_rings { length net.now.rings + length places.now < 2 ^ 31 }
@@ -264,7 +264,7 @@ pub(crate) fn watch(
     words: &[Word],
     first: u32,
     places: &[u32],
-) -> Result<Option<Watched>, OutOfMemory>
+) -> Result<Option<Watched>, AllocError>
     requires proper { IsProper net.now }
     requires within { AllByRecursion (IsWithin (length net.now.actors) (length words.now)) places.now }
     requires few { length places.now < 2 ^ 30 }
@@ -280,7 +280,7 @@ pub(crate) fn watch(
     let net = with_outputs(alloc, net, words, first, places)?;
     match schedule_of(alloc, &net) {
         Ok(schedule) => Ok(Some(Watched { net, schedule })),
-        Err(CauseFault::OutOfMemory) => Err(OutOfMemory),
+        Err(CauseFault::OutOfMemory) => Err(AllocError),
         Err(_) => Ok(None),
     }
 }

@@ -34,8 +34,7 @@ use lucy_program::{Accepted, accepted_programs_are_clocked};
 use lucy_results::param_words;
 use lucy_run::{Ending, extent_of, main_feed};
 use lucy_text::{Sink, Source, write_all};
-use lucy_word::OutOfMemory;
-use std::alloc::Global;
+use std::alloc::{AllocError, Global};
 
 // The text of the dump of a run.
 fn wave_text(
@@ -45,7 +44,7 @@ fn wave_text(
     outputs: &[OutputSpec],
     played: &Played,
     instants: u64,
-) -> Result<Vec<u8>, OutOfMemory>
+) -> Result<Vec<u8>, AllocError>
     requires clocked { AreClocked placed.now.nodes clocks.now }
     requires outputs { length outputs.now ≡ length (results_in (main_of placed.now.nodes)) }
     requires lists { params_in (main_of placed.now.nodes) ≡ length played.now.lists }
@@ -88,7 +87,7 @@ fn dumped<F: Fn(u32, i64, i64) -> i64 + Sync>(
     host: &Host<F>,
     items: Inputs,
     horizon: u64,
-) -> Result<Vec<u8>, OutOfMemory>
+) -> Result<Vec<u8>, AllocError>
     requires clocked { AreClocked placed.now.nodes clocks.now }
     requires flat { IsFlat placed.now.nodes clocks.now net }
     requires sound { IsSound net (events_at schedule) }

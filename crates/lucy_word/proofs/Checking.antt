@@ -7,9 +7,9 @@ use Rattle.std.proofs.lemmas.List.{take_at, take_more, take-append-drop, take_al
 use Rattle.std.proofs.lemmas.Int.Digits.{digits_value_push}
 use Rattle.std.proofs.lemmas.Str.Parse.{digit_at}
 use Rattle.std.proofs.lemmas.Str.{digit_value_digit}
-use Rattle.std.proofs.lemmas.Bool.{both_ways, cases_lt}
+use Rattle.std.proofs.lemmas.Bool.{both_ways, cases_lt, eqb-true}
 use Rattle.std.proofs.lemmas.Bool.Decides.{nat_tests}
-use Rattle.lucy_word.specs.Items.{Item, alone, counted, digit_of, item_text, items_text, HasCount, Form, form_text, form_bits, IsForm}
+use Rattle.lucy_word.specs.Items.{WordItem, alone, counted, digit_of, item_text, items_text, HasCount, WordForm, form_text, form_bits, IsForm}
 use Rattle.lucy_word.specs.Bits.{Bits}
 use Rattle.lucy_word.specs.Spelling.{is_digit, Spells}
 use Rattle.lucy_word.specs.Forms.{IsUnfitAt, IsZeroAt, AreItems, IsBreak, IsBadAt}
@@ -18,14 +18,14 @@ use Rattle.lucy_word.specs.declared.form.Stage.TheVariants as stage
 use Rattle.lucy_word.specs.Stages.{is_decimal, ended, begin, next, behind}
 use Rattle.lucy_word.specs.Cutting.{count_from, all_zeros}
 use Rattle.lucy_word.specs.Partials.{At, item, digit, brace, count, Partial, going, whole, step, run, start, ends, opened}
-use Rattle.lucy_word.proofs.PartialLaws.{by_test, equal_to, ran, run_append, settled, read_items, read_counted, open_runs, form_runs, begins_read, read_begins}
+use Rattle.lucy_word.proofs.PartialLaws.{by_test, ran, run_append, settled, read_items, read_counted, open_runs, form_runs, begins_read, read_begins}
 
 -- the stage of what was read
-abbrev inside : Option (List Item) → Bool
+abbrev inside : Option (List WordItem) → Bool
 inside None = false
 inside (Some ps) = true
 
-abbrev any : List Item → Bool
+abbrev any : List WordItem → Bool
 any [] = false
 any (i ∷ is) = true
 
@@ -45,14 +45,14 @@ staged_if : (t : Bool) (x y : Option Partial) (u v : Option stage_type.Stage) �
 staged_if true x y u v e f = e
 staged_if false x y u v e f = f
 
-any_more : (is : List Item) (i : Item) → any (is ++ i ∷ []) ≡ true
+any_more : (is : List WordItem) (i : WordItem) → any (is ++ i ∷ []) ≡ true
 any_more [] i = refl
 any_more (j ∷ is) i = refl
 
 not_both : (c : ℕ) → eqb c 40 ≡ true → eqb c 41 ≡ true → ⊥
-not_both c h k = absurd (omega (arith, equal_to c 40 h, equal_to c 41 k))
+not_both c h k = absurd (omega (arith, eqb-true c 40 h, eqb-true c 41 k))
 
-ends_stage : (b : Option (List Item)) (is : List Item) (c : ℕ) → staged (ends b is c) ≡ ended (inside b) (any is) c
+ends_stage : (b : Option (List WordItem)) (is : List WordItem) (c : ℕ) → staged (ends b is c) ≡ ended (inside b) (any is) c
 ends_stage None is c = go (eqb c 40) (eqb c 41)
   where
     go : (t u : Bool) →
@@ -91,15 +91,15 @@ AllSome (going None is at) = AllByRecursion HasCount is
 AllSome (going (Some ps) is at) = AllByRecursion HasCount ps × AllByRecursion HasCount is
 AllSome (whole ps is) = AllByRecursion HasCount ps × AllByRecursion HasCount is
 
-some-append : (is js : List Item) → AllByRecursion HasCount is → AllByRecursion HasCount js → AllByRecursion HasCount (is ++ js)
+some-append : (is js : List WordItem) → AllByRecursion HasCount is → AllByRecursion HasCount js → AllByRecursion HasCount (is ++ js)
 some-append [] js h k = k
 some-append (i ∷ is) js h k = (h.0, some-append is js h.1 k)
 
-some-left : (is js : List Item) → AllByRecursion HasCount (is ++ js) → AllByRecursion HasCount is
+some-left : (is js : List WordItem) → AllByRecursion HasCount (is ++ js) → AllByRecursion HasCount is
 some-left [] js h = tt
 some-left (i ∷ is) js h = (h.0, some-left is js h.1)
 
-some-right : (is js : List Item) → AllByRecursion HasCount (is ++ js) → AllByRecursion HasCount js
+some-right : (is js : List WordItem) → AllByRecursion HasCount (is ++ js) → AllByRecursion HasCount js
 some-right [] js h = h
 some-right (i ∷ is) js h = some-right is js h.1
 
@@ -107,15 +107,15 @@ some-right (i ∷ is) js h = some-right is js h.1
 abbrev IsAdded : Partial → Partial → Type 0
 IsAdded p q = AllSome q → AllSome p
 
-added : (b : Option (List Item)) (is js : List Item) (at bt : At) → IsAdded (going b is at) (going b (is ++ js) bt)
+added : (b : Option (List WordItem)) (is js : List WordItem) (at bt : At) → IsAdded (going b is at) (going b (is ++ js) bt)
 added None is js at bt h = some-left is js h
 added (Some ps) is js at bt h = (h.0, some-left is js h.1)
 
-same_items : (b : Option (List Item)) (is : List Item) (at bt : At) → IsAdded (going b is at) (going b is bt)
+same_items : (b : Option (List WordItem)) (is : List WordItem) (at bt : At) → IsAdded (going b is at) (going b is bt)
 same_items None is at bt h = h
 same_items (Some ps) is at bt h = h
 
-ends_added : (b : Option (List Item)) (is : List Item) (at : At) (c : ℕ) (q : Partial) → ends b is c ≡ Some q → IsAdded (going b is at) q
+ends_added : (b : Option (List WordItem)) (is : List WordItem) (at : At) (c : ℕ) (q : Partial) → ends b is c ≡ Some q → IsAdded (going b is at) q
 ends_added None is at c q e =
     by_test (eqb c 40) (opened None is) (cond (eqb c 41) None None) q _ e
     (λ t r. let same : going (Some is) [] item ≡ q = cc in subst (λ (u : Partial). IsAdded (going None is at) u) same (λ h. h.0))
@@ -193,7 +193,7 @@ pub record ZeroEnd (text : List ℕ) (place : ℕ) : Type 0 where
   pub past : place + 1 < stop
   pub digits : (k : ℕ) → place ≤ k → k + 1 < stop → is_decimal (get_or text k 0) ≡ true
 
-none_some : (b : Option (List Item)) (is : List Item) (x : Bool) (ds : List ℕ) → digits_value 10 ds ≡ 0 →
+none_some : (b : Option (List WordItem)) (is : List WordItem) (x : Bool) (ds : List ℕ) → digits_value 10 ds ≡ 0 →
     AllSome (going b (is ++ counted x ds ∷ []) item) → ⊥
 none_some None is x ds e h = omega (arith, e, (some-right is (counted x ds ∷ []) h).0)
 none_some (Some ps) is x ds e h = omega (arith, e, (some-right is (counted x ds ∷ []) h.1).0)
@@ -209,7 +209,7 @@ read_zero front x ds (inl (is, h, e)) k z =
     )
 read_zero front x ds (inr (is, js, h, g, e)) k z =
     let a = read_items None [] item is tt h in
-    let ps : List Item = settled a.items a.place in
+    let ps : List WordItem = settled a.items a.place in
     let c = read_items (Some ps) [] item js tt g in (
       going (Some ps) (settled c.items c.place ++ counted x ds ∷ []) item,
       ap (λ u. run (Some start) (u ++ item_text (counted x ds))) e
@@ -304,16 +304,16 @@ and_false false = refl
 not_zero : (c : ℕ) (k : ℕ) → c ≡ k → (k ≡ 48 → ⊥) → eqb c 48 ≡ false
 not_zero c k e n = let m : c ≡ 48 → ⊥ = λ f. n (sym e ∙ f) in grind (arith, nat_tests)
 
-some_of : (b : Option (List Item)) (is js : List Item) (at bt : At) → AllByRecursion HasCount js → AllSome (going b is at) →
+some_of : (b : Option (List WordItem)) (is js : List WordItem) (at bt : At) → AllByRecursion HasCount js → AllSome (going b is at) →
     AllSome (going b (is ++ js) bt)
 some_of None is js at bt k h = some-append is js h k
 some_of (Some ps) is js at bt k h = (h.0, some-append is js h.1 k)
 
-keep_some : (b : Option (List Item)) (is : List Item) (at bt : At) → AllSome (going b is at) → AllSome (going b is bt)
+keep_some : (b : Option (List WordItem)) (is : List WordItem) (at bt : At) → AllSome (going b is at) → AllSome (going b is bt)
 keep_some None is at bt h = h
 keep_some (Some ps) is at bt h = h
 
-ends_some : (b : Option (List Item)) (is : List Item) (at : At) (c : ℕ) (q : Partial) (all : Bool) (from i : ℕ) → all ≡ false →
+ends_some : (b : Option (List WordItem)) (is : List WordItem) (at : At) (c : ℕ) (q : Partial) (all : Bool) (from i : ℕ) → all ≡ false →
     AllSome (going b is at) → ends b is c ≡ Some q → AllSome q × IsPending q all from i
 ends_some None is at c q all from i z h e =
     by_test (eqb c 40) (opened None is) (cond (eqb c 41) None None) q _ e
@@ -358,22 +358,22 @@ record Goes (q : Partial) (all : Bool) (from i : ℕ) : Type 0 where
 goes_at : (q r : Partial) (all : Bool) (from i : ℕ) → Some r ≡ Some q → Goes r all from i → Goes q all from i
 goes_at q r all from i e g = let same : r ≡ q = cc in subst (λ (u : Partial). Goes u all from i) same g
 
-goes_ends : (b : Option (List Item)) (is : List Item) (at : At) (c : ℕ) (q : Partial) (all : Bool) (from i : ℕ) → all ≡ false →
+goes_ends : (b : Option (List WordItem)) (is : List WordItem) (at : At) (c : ℕ) (q : Partial) (all : Bool) (from i : ℕ) → all ≡ false →
     AllSome (going b is at) → ends b is c ≡ Some q → Goes q all from i
 goes_ends b is at c q all from i z h e = let x = ends_some b is at c q all from i z h e in record { some = x.0; pending = x.1 }
 
-goes_digit : (b : Option (List Item)) (is js : List Item) (at : At) (x all : Bool) (from i : ℕ) → AllByRecursion HasCount js →
+goes_digit : (b : Option (List WordItem)) (is js : List WordItem) (at : At) (x all : Bool) (from i : ℕ) → AllByRecursion HasCount js →
     AllSome (going b is at) → all ≡ false → Goes (going b (is ++ js) (digit x)) all from i
 goes_digit b is js at x all from i k h z = record { some = some_of b is js at (digit x) k h; pending = z }
 
-goes_item : (b : Option (List Item)) (is : List Item) (c : ℕ) (q : Partial) (all : Bool) (from i : ℕ) → step (going b is item) c ≡ Some q →
+goes_item : (b : Option (List WordItem)) (is : List WordItem) (c : ℕ) (q : Partial) (all : Bool) (from i : ℕ) → step (going b is item) c ≡ Some q →
     AllSome (going b is item) → all ≡ false → Goes q all from i
 goes_item b is c q all from i e h z =
     by_test (is_digit c) (Some (going b is (digit (eqb c 49)))) (ends b is c) q _ e
     (λ t r. goes_at q (going b is (digit (eqb c 49))) all from i r (record { some = keep_some b is item (digit (eqb c 49)) h; pending = z }))
     (λ t r. goes_ends b is item c q all from i z h r)
 
-goes_behind : (b : Option (List Item)) (is : List Item) (x : Bool) (c : ℕ) (q : Partial) (all : Bool) (from i : ℕ) →
+goes_behind : (b : Option (List WordItem)) (is : List WordItem) (x : Bool) (c : ℕ) (q : Partial) (all : Bool) (from i : ℕ) →
     step (going b is (digit x)) c ≡ Some q → AllSome (going b is (digit x)) → all ≡ false → Goes q all from i
 goes_behind b is x c q all from i e h z =
     by_test (is_digit c) (Some (going b (is ++ alone x ∷ []) (digit (eqb c 49)))) (cond (eqb c 123) (Some (going b is (brace x))) (ends b (is ++ alone x ∷ []) c)) q _ e
@@ -382,7 +382,7 @@ goes_behind b is x c q all from i e h z =
     (λ u s. goes_at q (going b is (brace x)) all from i s (record { some = keep_some b is (digit x) (brace x) h; pending = z }))
     (λ u s. goes_ends b (is ++ alone x ∷ []) item c q all from i z (some_of b is (alone x ∷ []) (digit x) item (omega arith, tt) h) s))
 
-goes_brace : (b : Option (List Item)) (is : List Item) (x : Bool) (c : ℕ) (q : Partial) (i : ℕ) → step (going b is (brace x)) c ≡ Some q →
+goes_brace : (b : Option (List WordItem)) (is : List WordItem) (x : Bool) (c : ℕ) (q : Partial) (i : ℕ) → step (going b is (brace x)) c ≡ Some q →
     AllSome (going b is (brace x)) → Goes q (eqb c 48) i (i + 1)
 goes_brace b is x c q i e h =
     by_test (is_decimal c) (Some (going b is (count x (c ∷ [])))) None q _ e
@@ -396,7 +396,7 @@ positive_from false es f g = positive (digits_value 10 es) f
     positive : (n : ℕ) → false ≡ eqb n 0 → 0 < n
     positive n h = grind (arith, nat_tests)
 
-goes_count : (b : Option (List Item)) (is : List Item) (x : Bool) (ds : List ℕ) (c : ℕ) (q : Partial) (all : Bool) (from i : ℕ) →
+goes_count : (b : Option (List WordItem)) (is : List WordItem) (x : Bool) (ds : List ℕ) (c : ℕ) (q : Partial) (all : Bool) (from i : ℕ) →
     step (going b is (count x ds)) c ≡ Some q → AllSome (going b is (count x ds)) →
     all ≡ eqb (digits_value 10 ds) 0 → from + length ds ≡ i → (all ≡ true → c ≡ 125 → ⊥) → Goes q (all && eqb c 48) from (i + 1)
 goes_count b is x ds c q all from i e h z at n =
@@ -405,7 +405,7 @@ goes_count b is x ds c q all from i e h z at n =
     (record { some = keep_some b is (count x ds) (count x (ds ++ c ∷ [])) h; pending = (value_next c ds all t z, omega (arith, at, length-append ds (c ∷ []))) }))
     (λ t r. by_test (eqb c 125) (Some (going b (is ++ counted x ds ∷ []) item)) None q _ r
     (λ u s.
-    let k : c ≡ 125 = equal_to c 125 u in
+    let k : c ≡ 125 = eqb-true c 125 u in
     goes_at q (going b (is ++ counted x ds ∷ []) item) (all && eqb c 48) from (i + 1) s
     (record { some = some_of b is (counted x ds ∷ []) (count x ds) item (positive_from all ds z (λ f. n f k), tt) h; pending = ap (λ t. all && t) (not_zero c 125 k (λ f. absurd cc)) ∙ and_false all }))
     (λ u s. absurd cc))
@@ -442,7 +442,7 @@ checked_more text i from all s t k less e n =
         }
 
 -- the ways out
-none_read : (text : List ℕ) (i : ℕ) (f : Form) → IsForm f → text ≡ form_text f → to i text ≡ None → ⊥
+none_read : (text : List ℕ) (i : ℕ) (f : WordForm) → IsForm f → text ≡ form_text f → to i text ≡ None → ⊥
 none_read text i f h e none =
     let all : run (to i text) (drop i text) ≡ Some (whole f.prefix f.period) =
     sym (run_append (Some start) (take i text) (drop i text)) ∙ ap (run (Some start)) (take-append-drop i text ∙ e) ∙ form_runs f h in
@@ -547,11 +547,11 @@ bad_zero text i from s t k less e last =
     here (going None is (count x ds)) r g =
         let a = ran (Some start) (take i text) (going None is (count x ds)) r start refl in
         let w = a.is (tt, tt) in
-        zero_here text i from x ds (items_text is) (inl (is, w.0, refl)) w.1 (equal_to (digits_value 10 ds) 0 (sym g.0)) (sym a.reads) less last g.1
+        zero_here text i from x ds (items_text is) (inl (is, w.0, refl)) w.1 (eqb-true (digits_value 10 ds) 0 (sym g.0)) (sym a.reads) less last g.1
     here (going (Some ps) is (count x ds)) r g =
         let a = ran (Some start) (take i text) (going (Some ps) is (count x ds)) r start refl in
         let w = a.is (tt, tt) in
-        zero_here text i from x ds (items_text ps ++ 40 ∷ items_text is) (inr (ps, is, w.0, w.1.0, refl)) w.1.1 (equal_to (digits_value 10 ds) 0 (sym g.0))
+        zero_here text i from x ds (items_text ps ++ 40 ∷ items_text is) (inr (ps, is, w.0, w.1.0, refl)) w.1.1 (eqb-true (digits_value 10 ds) 0 (sym g.0))
         (sym a.reads ∙ sym (append_assoc (items_text ps) (40 ∷ items_text is) (digit_of x ∷ 123 ∷ ds))) less last g.1
 
     go : (o : Option Partial) → step k.state (get_or text i 0) ≡ o → staged o ≡ Some t → (q : Partial) × (to (i + 1) text ≡ Some q)
@@ -591,7 +591,7 @@ good_text text from all i k e = go k.state k.reads k.staged k.some
     go (whole ps is) r g h =
         let a = ran (Some start) (take i text) (whole ps is) r start refl in
         let w = a.is (tt, tt) in
-        let f : Form = record { prefix = ps; period = is } in (
+        let f : WordForm = record { prefix = ps; period = is } in (
           form_bits f,
           record {
             form = f;
@@ -608,5 +608,5 @@ run_stage None text = refl
 run_stage (Some p) [] = refl
 run_stage (Some p) (c ∷ text) = run_stage (step p c) text ∙ ap (λ o. behind o text) (step_stage p c)
 
-pub form_closes : (f : Form) → IsForm f → behind (Some begin) (form_text f) ≡ Some stage.Closed
+pub form_closes : (f : WordForm) → IsForm f → behind (Some begin) (form_text f) ≡ Some stage.Closed
 form_closes f h = sym (run_stage (Some start) (form_text f)) ∙ ap staged (form_runs f h)

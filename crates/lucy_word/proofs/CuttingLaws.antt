@@ -10,7 +10,7 @@ use Rattle.std.proofs.lemmas.Str.Parse.{digit_from_value}
 use Rattle.std.proofs.lemmas.Bool.Decides.{nat_tests}
 use Rattle.std.proofs.lemmas.List.Sums.{sum_by-cons, sum_by-append}
 use Rattle.lucy_word.specs.Bits.{one_if, ones_in}
-use Rattle.lucy_word.specs.Items.{Item, alone, counted, digit_of, items_text, item_bits, items_bits, times, IsItem, Form, form_text, IsForm}
+use Rattle.lucy_word.specs.Items.{WordItem, alone, counted, digit_of, items_text, item_bits, items_bits, repeats_of, IsItem, WordForm, form_text, IsForm}
 use Rattle.lucy_word.specs.Cutting.{is_no_open, IsSplit, most_count, BeginsWithout, IsTimes, ones_of, AddsUp}
 
 -- no item has a `(`
@@ -33,7 +33,7 @@ digits_no_open (d ∷ ds) h =
     high_no_open : (c : ℕ) → 48 ≤ c → is_no_open c ≡ true
     high_no_open c g = grind (arith, nat_tests)
 
-items_no_open : (is : List Item) → AllByRecursion IsItem is → AreNoOpen (items_text is)
+items_no_open : (is : List WordItem) → AllByRecursion IsItem is → AreNoOpen (items_text is)
 unfolding AreNoOpen
 items_no_open [] h = tt
 items_no_open (alone true ∷ is) h = (refl, items_no_open is h.1)
@@ -47,15 +47,15 @@ open_len [] rest h = refl
 open_len (x ∷ xs) rest h = ap (λ t. cond t (1 + prefix_len is_no_open (xs ++ 40 ∷ rest)) 0) h.0 ∙ omega (arith, open_len xs rest h.1)
 
 -- where the prefix ends, and the period
-pub prefix_end : (text : List ℕ) (n : ℕ) (f : Form) → IsForm f → text ≡ form_text f → n ≡ prefix_len is_no_open text →
+pub prefix_end : (text : List ℕ) (n : ℕ) (f : WordForm) → IsForm f → text ≡ form_text f → n ≡ prefix_len is_no_open text →
     n ≡ length (items_text f.prefix)
 prefix_end text n f h e k = k ∙ ap (prefix_len is_no_open) e ∙ open_len (items_text f.prefix) (items_text f.period ++ 41 ∷ []) (items_no_open f.prefix h.prefix)
 
-pub behind_prefix : (text : List ℕ) (n : ℕ) (f : Form) → IsForm f → text ≡ form_text f → n ≡ prefix_len is_no_open text →
+pub behind_prefix : (text : List ℕ) (n : ℕ) (f : WordForm) → IsForm f → text ≡ form_text f → n ≡ prefix_len is_no_open text →
     drop n text ≡ 40 ∷ (items_text f.period ++ 41 ∷ [])
 behind_prefix text n f h e k = ap (drop n) e ∙ drop_at (items_text f.prefix) (40 ∷ (items_text f.period ++ 41 ∷ [])) n (sym (prefix_end text n f h e k))
 
-pub is_split : (text a b : List ℕ) (n : ℕ) (f : Form) → IsForm f → text ≡ form_text f → n ≡ prefix_len is_no_open text → a ≡ take n text →
+pub is_split : (text a b : List ℕ) (n : ℕ) (f : WordForm) → IsForm f → text ≡ form_text f → n ≡ prefix_len is_no_open text → a ≡ take n text →
     b ≡ drop n text → IsSplit a (take (length b - 1 - 1) (drop 1 b)) f
 is_split text a b n f h e k p q =
     let whole : b ≡ 40 ∷ (items_text f.period ++ 41 ∷ []) = q ∙ behind_prefix text n f h e k in
@@ -65,7 +65,7 @@ is_split text a b n f h e k p q =
       period_is = ap (λ (u : List ℕ). take (length b - 1 - 1) (drop 1 u)) whole ∙ take_at (items_text f.period) (41 ∷ []) (length b - 1 - 1) (sym size);
     }
 
-pub long_enough : (text b : List ℕ) (n : ℕ) (f : Form) → IsForm f → text ≡ form_text f → n ≡ prefix_len is_no_open text → b ≡ drop n text →
+pub long_enough : (text b : List ℕ) (n : ℕ) (f : WordForm) → IsForm f → text ≡ form_text f → n ≡ prefix_len is_no_open text → b ≡ drop n text →
     length b < 2 → ⊥
 long_enough text b n f h e k q less = omega (arith, ap length (q ∙ behind_prefix text n f h e k), length-append (items_text f.period) (41 ∷ []), less)
 
@@ -139,16 +139,16 @@ pub counting_left : (text rest : List ℕ) (value : ℕ) (ds more : List ℕ) �
 counting_left text rest value ds more k e = omega (arith, e, ap length k.left, length-append k.todo (125 ∷ more))
 
 -- one item is read
-pub record TakesItem (c : ℕ) (js : List Item) (n : ℕ) (rest : List ℕ) : Type 0 where
-  pub first : Item
-  pub others : List Item
+pub record TakesItem (c : ℕ) (js : List WordItem) (n : ℕ) (rest : List ℕ) : Type 0 where
+  pub first : WordItem
+  pub others : List WordItem
   pub whole : js ≡ first ∷ others
   pub are : AllByRecursion IsItem others
   pub left : rest ≡ items_text others
-  pub many : n ≡ min (times first) most_count
-  pub bits : item_bits first ≡ replicate (times first) (eqb c 49)
+  pub many : n ≡ min (repeats_of first) most_count
+  pub bits : item_bits first ≡ replicate (repeats_of first) (eqb c 49)
 
-starts_digit : (is : List Item) → BeginsWithout 123 (items_text is)
+starts_digit : (is : List WordItem) → BeginsWithout 123 (items_text is)
 starts_digit [] = tt
 starts_digit (alone true ∷ is) = λ e. omega (arith, e)
 starts_digit (alone false ∷ is) = λ e. omega (arith, e)
@@ -159,7 +159,7 @@ pub bit_again : (b : Bool) → eqb (digit_of b) 49 ≡ b
 bit_again true = refl
 bit_again false = refl
 
-pub takes_item : (c : ℕ) (behind : List ℕ) (n : ℕ) (rest : List ℕ) (js : List Item) → AllByRecursion IsItem js →
+pub takes_item : (c : ℕ) (behind : List ℕ) (n : ℕ) (rest : List ℕ) (js : List WordItem) → AllByRecursion IsItem js →
     c ∷ behind ≡ items_text js → IsTimes behind n rest → TakesItem c js n rest
 takes_item c behind n rest [] h e t = absurd cc
 takes_item c behind n rest (alone b ∷ js) h e t =
@@ -178,38 +178,38 @@ takes_item c behind n rest (counted b ds ∷ js) h e t =
     record { first = counted b ds; others = js; whole = refl; are = h.1; left = r.1; many = r.0; bits = ap (λ x. replicate (digits_value 10 ds) x) bit }
 
 -- the bits so far, and the items that are left
-pub record Reading (items rest : List ℕ) (bits : List Bool) (is : List Item) : Type 0 where
-  pub others : List Item
+pub record Reading (items rest : List ℕ) (bits : List Bool) (is : List WordItem) : Type 0 where
+  pub others : List WordItem
   pub are : AllByRecursion IsItem others
   pub left : rest ≡ items_text others
   pub whole : bits ++ items_bits others ≡ items_bits is
 
-length_item : (i : Item) (b : Bool) → item_bits i ≡ replicate (times i) b → length (item_bits i) ≡ times i
-length_item i b e = ap length e ∙ length-replicate (times i) b
+length_item : (i : WordItem) (b : Bool) → item_bits i ≡ replicate (repeats_of i) b → length (item_bits i) ≡ repeats_of i
+length_item i b e = ap length e ∙ length-replicate (repeats_of i) b
 
-pub reading_more : (items rest : List ℕ) (bits : List Bool) (is : List Item) (c : ℕ) (behind : List ℕ) (n : ℕ) (after : List ℕ) (new : List Bool) → Reading items rest bits is → rest ≡ c ∷ behind → IsTimes behind n after →
+pub reading_more : (items rest : List ℕ) (bits : List Bool) (is : List WordItem) (c : ℕ) (behind : List ℕ) (n : ℕ) (after : List ℕ) (new : List Bool) → Reading items rest bits is → rest ≡ c ∷ behind → IsTimes behind n after →
     length (items_bits is) < most_count → new ≡ bits ++ replicate n (eqb c 49) → Reading items after new is
 reading_more items rest bits is c behind n after new k e t few made =
     let x = takes_item c behind n after k.others k.are (sym e ∙ k.left) t in
-    let within : times x.first ≤ length (items_bits is) = omega (
+    let within : repeats_of x.first ≤ length (items_bits is) = omega (
       arith,
       length_item x.first (eqb c 49) x.bits,
       ap length (sym k.whole),
       length-append bits (items_bits k.others),
-      ap (λ (u : List Item). length (items_bits u)) x.whole,
+      ap (λ (u : List WordItem). length (items_bits u)) x.whole,
       length-append (item_bits x.first) (items_bits x.others),
     ) in
-    let count : n ≡ times x.first = omega (arith, x.many, within, few) in
+    let count : n ≡ repeats_of x.first = omega (arith, x.many, within, few) in
     record {
       others = x.others;
       are = x.are;
       left = x.left;
       whole = ap (λ u. u ++ items_bits x.others) (made ∙ ap (λ m. bits ++ replicate m (eqb c 49)) count ∙ ap (λ u. bits ++ u) (sym x.bits)) ∙ append_assoc bits (item_bits x.first) (items_bits x.others)
-          ∙ ap (λ (u : List Item). bits ++ items_bits u) (sym x.whole) ∙ k.whole;
+          ∙ ap (λ (u : List WordItem). bits ++ items_bits u) (sym x.whole) ∙ k.whole;
     }
 
 -- there is room for the bits of the next item
-pub reading_room : (items rest : List ℕ) (bits : List Bool) (is : List Item) (c : ℕ) (behind : List ℕ) (n : ℕ) (after : List ℕ) → Reading items rest bits is → rest ≡ c ∷ behind → IsTimes behind n after →
+pub reading_room : (items rest : List ℕ) (bits : List Bool) (is : List WordItem) (c : ℕ) (behind : List ℕ) (n : ℕ) (after : List ℕ) → Reading items rest bits is → rest ≡ c ∷ behind → IsTimes behind n after →
     length (items_bits is) < most_count → length bits + n < most_count
 reading_room items rest bits is c behind n after k e t few =
     let x = takes_item c behind n after k.others k.are (sym e ∙ k.left) t in
@@ -220,22 +220,22 @@ reading_room items rest bits is c behind n after k e t few =
       length_item x.first (eqb c 49) x.bits,
       ap length (sym k.whole),
       length-append bits (items_bits k.others),
-      ap (λ (u : List Item). length (items_bits u)) x.whole,
+      ap (λ (u : List WordItem). length (items_bits u)) x.whole,
       length-append (item_bits x.first) (items_bits x.others),
     )
 
-pub reading_ends : (items rest : List ℕ) (bits : List Bool) (is : List Item) → Reading items rest bits is → length rest ≡ 0 →
+pub reading_ends : (items rest : List ℕ) (bits : List Bool) (is : List WordItem) → Reading items rest bits is → length rest ≡ 0 →
     bits ≡ items_bits is
 reading_ends items rest bits is k none = go k.others refl
   where
-    go : (js : List Item) → k.others ≡ js → bits ≡ items_bits is
-    go [] f = sym (append-nil bits) ∙ ap (λ (u : List Item). bits ++ items_bits u) (sym f) ∙ k.whole
+    go : (js : List WordItem) → k.others ≡ js → bits ≡ items_bits is
+    go [] f = sym (append-nil bits) ∙ ap (λ (u : List WordItem). bits ++ items_bits u) (sym f) ∙ k.whole
     go (alone b ∷ js) f = absurd (omega (arith, none, ap length (k.left ∙ ap items_text f)))
     go (counted b ds ∷ js) f = absurd (omega (arith, none, ap length (k.left ∙ ap items_text f)))
 
 -- how many bits there are so far, how many of them are ones, and the items that are left
-pub record Summing (items rest : List ℕ) (bits ones : ℕ) (is : List Item) : Type 0 where
-  pub others : List Item
+pub record Summing (items rest : List ℕ) (bits ones : ℕ) (is : List WordItem) : Type 0 where
+  pub others : List WordItem
   pub are : AllByRecursion IsItem others
   pub left : rest ≡ items_text others
   pub bits_are : bits + length (items_bits others) ≡ length (items_bits is)
@@ -248,29 +248,29 @@ ones_run (suc n) true = sum_by-cons one_if true (replicate n true) ∙ omega (ar
 ones_run (suc n) false = sum_by-cons one_if false (replicate n false) ∙ omega (arith, ones_run n false)
 
 -- the bits of the next item, and those behind it
-record Next (c : ℕ) (behind : List ℕ) (n : ℕ) (after : List ℕ) (js : List Item) : Type 0 where
+record Next (c : ℕ) (behind : List ℕ) (n : ℕ) (after : List ℕ) (js : List WordItem) : Type 0 where
   item : TakesItem c js n after
-  bits : length (items_bits js) ≡ times item.first + length (items_bits item.others)
-  ones : ones_in (items_bits js) ≡ ones_of c (times item.first) + ones_in (items_bits item.others)
+  bits : length (items_bits js) ≡ repeats_of item.first + length (items_bits item.others)
+  ones : ones_in (items_bits js) ≡ ones_of c (repeats_of item.first) + ones_in (items_bits item.others)
 
-next : (c : ℕ) (behind : List ℕ) (n : ℕ) (after : List ℕ) (js : List Item) → AllByRecursion IsItem js → c ∷ behind ≡ items_text js →
+next : (c : ℕ) (behind : List ℕ) (n : ℕ) (after : List ℕ) (js : List WordItem) → AllByRecursion IsItem js → c ∷ behind ≡ items_text js →
     IsTimes behind n after → Next c behind n after js
 next c behind n after js h e t =
     let x = takes_item c behind n after js h e t in
-    let whole : items_bits js ≡ replicate (times x.first) (eqb c 49) ++ items_bits x.others =
+    let whole : items_bits js ≡ replicate (repeats_of x.first) (eqb c 49) ++ items_bits x.others =
     ap items_bits x.whole ∙ ap (λ u. u ++ items_bits x.others) x.bits in
     record {
       item = x;
-      bits = omega (arith, ap length whole, length-append (replicate (times x.first) (eqb c 49)) (items_bits x.others), length-replicate (times x.first) (eqb c 49));
-      ones = ap ones_in whole ∙ sum_by-append one_if (replicate (times x.first) (eqb c 49)) (items_bits x.others)
-          ∙ ap (λ m. m + ones_in (items_bits x.others)) (ones_run (times x.first) (eqb c 49));
+      bits = omega (arith, ap length whole, length-append (replicate (repeats_of x.first) (eqb c 49)) (items_bits x.others), length-replicate (repeats_of x.first) (eqb c 49));
+      ones = ap ones_in whole ∙ sum_by-append one_if (replicate (repeats_of x.first) (eqb c 49)) (items_bits x.others)
+          ∙ ap (λ m. m + ones_in (items_bits x.others)) (ones_run (repeats_of x.first) (eqb c 49));
     }
 
 -- the next item adds up
 pub adds_item : (text : List ℕ) (c : ℕ) (behind : List ℕ) (n ones : ℕ) (after : List ℕ) → text ≡ c ∷ behind → IsTimes behind n after → ones ≡ ones_of c n → AddsUp text n ones after
 adds_item text c behind n ones after f t o js h e =
     let x = next c behind n after js h (sym f ∙ e) t in
-    let count : n < most_count → n ≡ times x.item.first = λ less. omega (arith, x.item.many, less) in
+    let count : n < most_count → n ≡ repeats_of x.item.first = λ less. omega (arith, x.item.many, less) in
     record {
       others = x.item.others;
       are = x.item.are;
@@ -287,7 +287,7 @@ ones_within c n = go (eqb c 49)
     go true = omega arith
     go false = omega arith
 
-pub summing_more : (items rest : List ℕ) (bits ones : ℕ) (is : List Item) (n m : ℕ) (after : List ℕ) → Summing items rest bits ones is → AddsUp rest n m after →
+pub summing_more : (items rest : List ℕ) (bits ones : ℕ) (is : List WordItem) (n m : ℕ) (after : List ℕ) → Summing items rest bits ones is → AddsUp rest n m after →
     n < most_count → Summing items after (bits + n) (ones + m) is
 summing_more items rest bits ones is n m after k adds less =
     let x = adds k.others k.are k.left in
@@ -299,20 +299,20 @@ summing_more items rest bits ones is n m after k adds less =
       ones_are = omega (arith, x.ones_are less, k.ones_are);
     }
 
-pub summing_long : (items rest : List ℕ) (bits ones : ℕ) (is : List Item) (n m : ℕ) (after : List ℕ) (most : ℕ) → Summing items rest bits ones is → AddsUp rest n m after →
+pub summing_long : (items rest : List ℕ) (bits ones : ℕ) (is : List WordItem) (n m : ℕ) (after : List ℕ) (most : ℕ) → Summing items rest bits ones is → AddsUp rest n m after →
     bits ≤ most → most - bits < n → most < length (items_bits is)
 summing_long items rest bits ones is n m after most k adds short more =
     let x = adds k.others k.are k.left in
     omega (arith, x.least, short, more, k.bits_are)
 
-pub summing_ends : (items rest : List ℕ) (bits ones : ℕ) (is : List Item) → Summing items rest bits ones is → length rest ≡ 0 →
+pub summing_ends : (items rest : List ℕ) (bits ones : ℕ) (is : List WordItem) → Summing items rest bits ones is → length rest ≡ 0 →
     (bits ≡ length (items_bits is)) × (ones ≡ ones_in (items_bits is))
 summing_ends items rest bits ones is k none = go k.others refl
   where
-    go : (js : List Item) → k.others ≡ js → (bits ≡ length (items_bits is)) × (ones ≡ ones_in (items_bits is))
+    go : (js : List WordItem) → k.others ≡ js → (bits ≡ length (items_bits is)) × (ones ≡ ones_in (items_bits is))
     go [] f = (
-      omega (arith, k.bits_are, ap (λ (u : List Item). length (items_bits u)) f),
-      omega (arith, k.ones_are, ap (λ (u : List Item). ones_in (items_bits u)) f),
+      omega (arith, k.bits_are, ap (λ (u : List WordItem). length (items_bits u)) f),
+      omega (arith, k.ones_are, ap (λ (u : List WordItem). ones_in (items_bits u)) f),
     )
     go (alone b ∷ js) f = absurd (omega (arith, none, ap length (k.left ∙ ap items_text f)))
     go (counted b ds ∷ js) f = absurd (omega (arith, none, ap length (k.left ∙ ap items_text f)))

@@ -12,7 +12,7 @@ use Rattle.std.proofs.lemmas.Nat.Bits.{bit_at-lt, bit_at_or, bit_at_mask_inside}
 use Rattle.std.proofs.lemmas.Simd.{bit_mask_l}
 use Rattle.std.specs.Simd.Lanes.{mask_l}
 use Rattle.lucy_word.specs.Bits.{one_if, ones_in}
-use Rattle.lucy_word.specs.Items.{Item, alone, counted, digit_of, items_text, items_bits, IsItem}
+use Rattle.lucy_word.specs.Items.{WordItem, alone, counted, digit_of, items_text, items_bits, IsItem}
 use Rattle.lucy_word.specs.Spelling.{is_digit}
 use Rattle.lucy_word.specs.Packing.{is_set, limb_bits}
 use Rattle.lucy_word.specs.Cutting.{AreDigits, AreAlone, AddsUp}
@@ -139,8 +139,8 @@ digits_front text n limb are =
     ∙ sym (get_or-map digit_of (limb_bits n limb) k false 0 (omega (arith, here, length-limb_bits n limb))))
 
 -- they are the first items
-record TakesAlone (bs : List Bool) (js : List Item) (rest : List ℕ) : Type 0 where
-  others : List Item
+record TakesAlone (bs : List Bool) (js : List WordItem) (rest : List ℕ) : Type 0 where
+  others : List WordItem
   are : AllByRecursion IsItem others
   left : rest ≡ items_text others
   bits_are : items_bits js ≡ bs ++ items_bits others
@@ -150,7 +150,7 @@ no_count [] rest more h e = h (sym (ap (λ l. get_or l 0 0) e))
 no_count (true ∷ bs) rest more h e = omega (arith, ap (λ l. get_or l 0 0) e)
 no_count (false ∷ bs) rest more h e = omega (arith, ap (λ l. get_or l 0 0) e)
 
-takes_alone : (bs : List Bool) (js : List Item) (rest : List ℕ) → AllByRecursion IsItem js → items_text js ≡ map digit_of bs ++ rest → (get_or rest 0 0 ≡ 123 → ⊥) → TakesAlone bs js rest
+takes_alone : (bs : List Bool) (js : List WordItem) (rest : List ℕ) → AllByRecursion IsItem js → items_text js ≡ map digit_of bs ++ rest → (get_or rest 0 0 ≡ 123 → ⊥) → TakesAlone bs js rest
 takes_alone [] js rest h e last = record { others = js; are = h; left = sym e; bits_are = refl }
 takes_alone (b ∷ bs) [] rest h e last = absurd (let wrong : [] ≡ digit_of b ∷ (map digit_of bs ++ rest) = e in cc)
 takes_alone (b ∷ bs) (alone d ∷ js) rest h e last =
@@ -165,7 +165,7 @@ takes_alone (b ∷ bs) (counted d ds ∷ js) rest h e last =
     let after : 123 ∷ ((ds ++ 125 ∷ []) ++ items_text js) ≡ map digit_of bs ++ rest = cc in
     absurd (no_count bs rest ((ds ++ 125 ∷ []) ++ items_text js) last after)
 
-taken : (text : List ℕ) (n limb : ℕ) (js : List Item) → AreAlone text n limb → 0 < n → AllByRecursion IsItem js → text ≡ items_text js →
+taken : (text : List ℕ) (n limb : ℕ) (js : List WordItem) → AreAlone text n limb → 0 < n → AllByRecursion IsItem js → text ≡ items_text js →
     TakesAlone (limb_bits n limb) js (drop n text)
 taken text n limb js are some h e =
     let front : items_text js ≡ map digit_of (limb_bits n limb) ++ drop n text =
@@ -196,7 +196,7 @@ adds_digits text n limb ones after are some o d js h e =
     }
 
 -- they are read
-pub reading_digits : (items rest : List ℕ) (bits : List Bool) (is : List Item) (n limb : ℕ) (after : List ℕ) (new : List Bool) → Reading items rest bits is →
+pub reading_digits : (items rest : List ℕ) (bits : List Bool) (is : List WordItem) (n limb : ℕ) (after : List ℕ) (new : List Bool) → Reading items rest bits is →
     AreAlone rest n limb → 0 < n → after ≡ drop n rest → new ≡ bits ++ limb_bits n limb → Reading items after new is
 reading_digits items rest bits is n limb after new k are some d made =
     let x = taken rest n limb k.others are some k.are k.left in

@@ -1,7 +1,10 @@
+pub mod Lists
+pub mod Results
 pub mod BitsLaws
 pub mod IndexLaws
 pub mod SamplingLaws
 pub mod OnLaws
+pub mod DelayLaws
 pub mod AdaptableLaws
 mod StepLaws
 mod WalkLaws

@@ -19,7 +19,8 @@ gcd_exists (suc fuel) a b h =
           (found.0, IsGcd-from_mod a b found.0 found.1)
     ]
 
-divides : (d k n : ℕ) → n ≡ k * d → d ∣ n
+-- a multiple is divided by its factor
+pub divides : (d k n : ℕ) → n ≡ k * d → d ∣ n
 divides d k n e = let P : ℕ → Type 0 = λ u. d ∣ u in subst P (sym e) (dvd-mul_left d k)
 
 -- a factor by which the product of two numbers is a common multiple, `q * h * g ≡ a * b`, divides them with g

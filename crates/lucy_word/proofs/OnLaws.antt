@@ -27,9 +27,11 @@ always_ticks i h =
 pub always_word : IsWord always
 always_word = record { has_one = omega arith }
 
+-- (1) is in shortest form
 pub always_shortest : IsShortest always
 always_shortest = record { period = λ v some same. omega (arith, some); prefix = λ v len same. omega arith }
 
+-- and it is as words are stored
 pub always_stored : IsStored always
 always_stored = record { word = always_word; nonempty = omega arith; short = omega arith; shortest = always_shortest }
 

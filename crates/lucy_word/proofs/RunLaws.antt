@@ -6,36 +6,34 @@ use Rattle.std.specs.Str.Parse.{digits_value}
 use Rattle.std.proofs.lemmas.List.{append-nil, replicate-append-replicate}
 use Rattle.std.proofs.lemmas.Fmt.{decimal_is_IsNumeral}
 use Rattle.lucy_word.specs.Bits.{Bits}
-use Rattle.lucy_word.specs.Items.{Item, alone, counted, digit_of, items_text, items_bits, IsItem, HasCount}
+use Rattle.lucy_word.specs.Items.{WordItem, alone, counted, digit_of, items_text, items_bits, IsItem, HasCount}
 use Rattle.lucy_word.specs.Spelling.{same_bit, run_text, runs_text, spelled, text_of, Spells}
+use Rattle.lucy_word.proofs.Lists.{all_join}
 
 -- items that spell a text and stand for bits
 pub record AreRuns (text : List ℕ) (bits : List Bool) : Type 0 where
-  pub items : List Item
+  pub items : List WordItem
   pub are : AllByRecursion IsItem items
   pub some : AllByRecursion HasCount items
   pub text_is : items_text items ≡ text
   pub bits_are : items_bits items ≡ bits
 
-text-append : (is js : List Item) → items_text (is ++ js) ≡ items_text is ++ items_text js
+-- the text of two lists of items
+pub text-append : (is js : List WordItem) → items_text (is ++ js) ≡ items_text is ++ items_text js
 text-append [] js = refl
 text-append (alone b ∷ is) js = ap (λ u. digit_of b ∷ u) (text-append is js)
 text-append (counted b ds ∷ is) js = ap (λ u. digit_of b ∷ 123 ∷ ((ds ++ 125 ∷ []) ++ u)) (text-append is js) ∙ ap (λ u. digit_of b ∷ 123 ∷ u) (sym (append_assoc (ds ++ 125 ∷ []) (items_text is) (items_text js)))
 
-bits-append : (is js : List Item) → items_bits (is ++ js) ≡ items_bits is ++ items_bits js
+bits-append : (is js : List WordItem) → items_bits (is ++ js) ≡ items_bits is ++ items_bits js
 bits-append [] js = refl
 bits-append (alone b ∷ is) js = ap (λ u. b ∷ u) (bits-append is js)
 bits-append (counted b ds ∷ is) js = ap (λ u. replicate (digits_value 10 ds) b ++ u) (bits-append is js) ∙ sym (append_assoc (replicate (digits_value 10 ds) b) (items_bits is) (items_bits js))
 
-all-append : (P : Item → Type 0) (is js : List Item) → AllByRecursion P is → AllByRecursion P js → AllByRecursion P (is ++ js)
-all-append P [] js h k = k
-all-append P (i ∷ is) js h k = (h.0, all-append P is js h.1 k)
-
 runs_and : (a b : List ℕ) (x y : List Bool) → AreRuns a x → AreRuns b y → AreRuns (a ++ b) (x ++ y)
 runs_and a b x y r s = record {
   items = r.items ++ s.items;
-  are = all-append IsItem r.items s.items r.are s.are;
-  some = all-append HasCount r.items s.items r.some s.some;
+  are = all_join IsItem r.items s.items r.are s.are;
+  some = all_join HasCount r.items s.items r.some s.some;
   text_is = text-append r.items s.items ∙ ap (λ u. u ++ items_text s.items) r.text_is ∙ ap (λ u. a ++ u) s.text_is;
   bits_are = bits-append r.items s.items ∙ ap (λ u. u ++ items_bits s.items) r.bits_are ∙ ap (λ u. x ++ u) s.bits_are;
 }
@@ -89,7 +87,7 @@ pub spelled_runs : (bits : List Bool) → length bits < 2 ^ 64 → AreRuns (spel
 spelled_runs [] h = record { items = []; are = tt; some = tt; text_is = refl; bits_are = refl }
 spelled_runs (b ∷ bits) h = all_runs b 1 bits (omega arith) (omega (arith, h))
 
-some_items : (is : List Item) → 0 < length (items_bits is) → 0 < length is
+some_items : (is : List WordItem) → 0 < length (items_bits is) → 0 < length is
 some_items [] h = h
 some_items (i ∷ is) h = omega arith
 

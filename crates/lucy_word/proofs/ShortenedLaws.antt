@@ -100,7 +100,7 @@ test_so w k p again = every_so (test w k p) (bit_count w) one
         ]
 
 -- bits of a word in a row
-length-bits_past : (w : Bits) (i n : ℕ) → length (bits_past w i n) ≡ n
+pub length-bits_past : (w : Bits) (i n : ℕ) → length (bits_past w i n) ≡ n
 length-bits_past w i zero = refl
 length-bits_past w i (suc n) = omega (arith, length-bits_past w (i + 1) n)
 

@@ -14,7 +14,7 @@ use Rattle.lucy_word.specs.Shortened.{word_of}
 use Rattle.lucy_word.proofs.ShortenedLaws.{shortened_is, zero_by_same}
 use Rattle.lucy_word.proofs.PartialLaws.{one_form, form_runs}
 use Rattle.lucy_word.proofs.Checking.{to, zero_end, no_zero_before}
-use Rattle.lucy_word.specs.Reading.{RefusesText, IsReadable, AnswersText}
+use Rattle.lucy_word.specs.Reading.{RefusesWordText, IsReadable, AnswersText}
 use Rattle.lucy_word.specs.declared.error.WordError.{WordError}
 use Rattle.lucy_word.specs.declared.error.WordError.TheVariants.{BadWord, TooLong, NoOne, OutOfMemory}
 
@@ -42,7 +42,7 @@ same_count text v w s t = ap bit_count (spells_one text v w s t)
 same_ones : (text : List ℕ) (v w : Bits) → Spells text v → Spells text w → ones_in v.period ≡ ones_in w.period
 same_ones text v w s t = ap (λ u. ones_in u.period) (spells_one text v w s t)
 
-refuses_one : (text : List ℕ) (e f : WordError) → RefusesText text e → RefusesText text f → e ≡ f
+pub refuses_one : (text : List ℕ) (e f : WordError) → RefusesWordText text e → RefusesWordText text f → e ≡ f
 refuses_one text (BadWord p) (BadWord q) h k = ap (λ n. BadWord n) (one_place text p q h k)
 refuses_one text (BadWord p) TooLong h k = absurd (spells_or_bad text k.0 p k.1 h)
 refuses_one text (BadWord p) NoOne h k = absurd (spells_or_bad text k.0 p k.1 h)
@@ -55,7 +55,7 @@ refuses_one text NoOne NoOne h k = refl
 refuses_one text OutOfMemory f h k = absurd h
 refuses_one text e OutOfMemory h k = absurd k
 
-read_or_refused : (text : List ℕ) (w : Bits) (e : WordError) → IsReadable text w → RefusesText text e → ⊥
+read_or_refused : (text : List ℕ) (w : Bits) (e : WordError) → IsReadable text w → RefusesWordText text e → ⊥
 read_or_refused text w (BadWord place) s r = spells_or_bad text s.0 place s.1 r
 read_or_refused text w TooLong s r = omega (arith, same_count text r.0 s.0 r.1 s.1, r.2, s.2)
 read_or_refused text w NoOne s r = omega (arith, same_ones text r.0 s.0 r.1 s.1, r.3, s.3)
@@ -74,11 +74,11 @@ pub good_spells : (text : List ℕ) {u : Bits} (g : Spells text u) → Spells te
 good_spells text g = record { form = g.form; is_form = g.is_form; counts = g.counts; shape = g.shape; bits = refl }
 
 -- the bits of a text, where they are too many, or have no one
-pub too_long : (text : List ℕ) {u : Bits} (g : Spells text u) → most_written < bit_count (form_bits g.form) → RefusesText text TooLong
+pub too_long : (text : List ℕ) {u : Bits} (g : Spells text u) → most_written < bit_count (form_bits g.form) → RefusesWordText text TooLong
 too_long text g h = (form_bits g.form, good_spells text g, h)
 
 pub no_one : (text : List ℕ) {u : Bits} (g : Spells text u) → bit_count (form_bits g.form) ≤ most_written →
-    ones_in (form_bits g.form).period ≡ 0 → RefusesText text NoOne
+    ones_in (form_bits g.form).period ≡ 0 → RefusesWordText text NoOne
 no_one text g h none = (form_bits g.form, good_spells text g, h, none)
 
 -- the bits of a text that is a form's

@@ -5,7 +5,7 @@ use Rattle.std.specs.Str.Parse.{IsNumeral, digits_value}
 use Rattle.lucy_word.specs.Bits.{ones_in, most_written}
 use Rattle.lucy_word.specs.declared.form.Stage.{Stage}
 use Rattle.lucy_word.specs.declared.form.Stage.TheVariants.{Digit, Brace}
-use Rattle.lucy_word.specs.Items.{Item, digit_of, IsItem, Form, items_text, items_bits}
+use Rattle.lucy_word.specs.Items.{WordItem, digit_of, IsItem, WordForm, items_text, items_bits}
 use Rattle.lucy_word.specs.Packing.{is_set}
 use Rattle.lucy_word.specs.Spelling.{is_digit}
 
@@ -14,7 +14,7 @@ abbrev pub is_no_open : ℕ → Bool
 is_no_open c = not (c == 40)
 
 -- the texts of prefix and period
-pub record IsSplit (prefix period : List ℕ) (f : Form) : Type 0 where
+pub record IsSplit (prefix period : List ℕ) (f : WordForm) : Type 0 where
   pub prefix_is : prefix ≡ items_text f.prefix
   pub period_is : period ≡ items_text f.period
 
@@ -52,8 +52,8 @@ abbrev pub ones_of : ℕ → ℕ → ℕ
 ones_of c n = if c == 49 then n else 0
 
 -- the first items are so many bits and ones, told up to `most_count`, and the text of the others is what follows
-pub record AddsFirst (is : List Item) (bits ones : ℕ) (rest : List ℕ) : Type 0 where
-  pub others : List Item
+pub record AddsFirst (is : List WordItem) (bits ones : ℕ) (rest : List ℕ) : Type 0 where
+  pub others : List WordItem
   pub are : AllByRecursion IsItem others
   pub left : rest ≡ items_text others
   pub least : bits ≤ length (items_bits is)
@@ -62,7 +62,7 @@ pub record AddsFirst (is : List Item) (bits ones : ℕ) (rest : List ℕ) : Type
 
 -- the same of the text of items
 abbrev pub AddsUp : List ℕ → ℕ → ℕ → List ℕ → Type 0
-AddsUp text bits ones rest = (is : List Item) → AllByRecursion IsItem is → text ≡ items_text is → AddsFirst is bits ones rest
+AddsUp text bits ones rest = (is : List WordItem) → AllByRecursion IsItem is → text ≡ items_text is → AddsFirst is bits ones rest
 
 -- a digit was read last that may stand alone
 abbrev pub at_digit : Stage → Bool

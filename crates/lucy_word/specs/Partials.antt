@@ -1,7 +1,7 @@
 -- The text of a form read byte by byte: what was read is a front of a form, and in the end its items.
 use Rattle.std.specs.Prelude.{ℕ, ◌==◌, Bool, List, [], ◌∷◌, ◌++◌, Option, Some, None, if◌then◌else◌}
 use Rattle.lucy_word.specs.Bits.{Bits}
-use Rattle.lucy_word.specs.Items.{Item, alone, counted, items_bits}
+use Rattle.lucy_word.specs.Items.{WordItem, alone, counted, items_bits}
 use Rattle.lucy_word.specs.Spelling.{is_digit}
 use Rattle.lucy_word.specs.Stages.{is_decimal}
 
@@ -14,22 +14,22 @@ pub data At : Type 0 where
 
 -- what was read: items, behind those of the prefix where its `(` was read; or all
 pub data Partial : Type 0 where
-  going : Option (List Item) → List Item → At → Partial
-  whole : List Item → List Item → Partial
+  going : Option (List WordItem) → List WordItem → At → Partial
+  whole : List WordItem → List WordItem → Partial
 
 -- its `(` is read behind the items of a prefix, and its `)` behind those of a period
-abbrev pub opened : Option (List Item) → List Item → Option Partial
+abbrev pub opened : Option (List WordItem) → List WordItem → Option Partial
 opened None is = Some (going (Some is) [] item)
 opened (Some ps) is = None
 
 -- its `)` is read behind the items of a period
-abbrev pub shut : Option (List Item) → List Item → Option Partial
+abbrev pub shut : Option (List WordItem) → List WordItem → Option Partial
 shut None is = None
 shut (Some ps) [] = None
 shut (Some ps) (j ∷ js) = Some (whole ps (j ∷ js))
 
 -- behind whole items, a `(` or a `)` is read
-abbrev pub ends : Option (List Item) → List Item → ℕ → Option Partial
+abbrev pub ends : Option (List WordItem) → List WordItem → ℕ → Option Partial
 ends b is c = if c == 40 then opened b is else if c == 41 then shut b is else None
 
 -- one byte more is read

@@ -12,16 +12,16 @@ abbrev pub IsReadable : List ℕ → Bits → Type 0
 IsReadable text w = (bits : Bits) × Spells text bits × (bit_count bits ≤ most_written) × (0 < ones_in bits.period) × IsShortForm bits w
 
 -- the text is refused so: for its form, else for its length, else for its period (never for want of memory)
-abbrev pub RefusesText : List ℕ → WordError → Type 0
-RefusesText text (BadWord place) = IsBadAt text place
-RefusesText text TooLong = (w : Bits) × Spells text w × (most_written < bit_count w)
-RefusesText text NoOne = (w : Bits) × Spells text w × (bit_count w ≤ most_written) × (ones_in w.period ≡ 0)
-RefusesText text OutOfMemory = ⊥
+abbrev pub RefusesWordText : List ℕ → WordError → Type 0
+RefusesWordText text (BadWord place) = IsBadAt text place
+RefusesWordText text TooLong = (w : Bits) × Spells text w × (most_written < bit_count w)
+RefusesWordText text NoOne = (w : Bits) × Spells text w × (bit_count w ≤ most_written) × (ones_in w.period ≡ 0)
+RefusesWordText text OutOfMemory = ⊥
 
 -- the text is answered so
 abbrev pub AnswersText : List ℕ → Result Bits WordError → Type 0
 AnswersText text (Ok w) = IsReadable text w
-AnswersText text (Err e) = RefusesText text e
+AnswersText text (Err e) = RefusesWordText text e
 
 -- the answer is the text's one answer, unless memory ran out
 abbrev pub OnlyAnswer : List ℕ → Result Bits WordError → Type 0

@@ -3,7 +3,7 @@
 use Rattle.std.specs.Prelude.{ℕ, ◌+◌, ◌≡◌, Bool, true, false, List, [], ◌∷◌, ◌++◌, replicate, if◌then◌else◌, ◌==◌, ◌||◌, nat_le}
 use Rattle.std.specs.Fmt.{decimal}
 use Rattle.lucy_word.specs.Bits.{Bits}
-use Rattle.lucy_word.specs.Items.{digit_of, Form, form_text, form_bits, IsForm, HasCounts}
+use Rattle.lucy_word.specs.Items.{digit_of, WordForm, form_text, form_bits, IsForm, HasCounts}
 
 -- the digit 0 or the digit 1
 abbrev pub is_digit : ℕ → Bool
@@ -35,7 +35,7 @@ text_of w = spelled w.prefix ++ 40 ∷ (spelled w.period ++ 41 ∷ [])
 
 -- the text spells the word
 pub record Spells (text : List ℕ) (w : Bits) : Type 0 where
-  pub form : Form
+  pub form : WordForm
   pub is_form : IsForm form
   pub counts : HasCounts form
   pub shape : text ≡ form_text form

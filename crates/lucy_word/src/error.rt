@@ -2,10 +2,6 @@ ghost use Rattle.std.specs.Prelude.{◌≡◌};
 
 use std::alloc::{AllocError, AllocFailed};
 
-/// Memory ran out.
-#[derive(Clone, Copy)]
-pub struct OutOfMemory;
-
 /// Why there is no word.
 #[derive(Clone, Copy)]
 pub enum WordError {
@@ -19,18 +15,6 @@ pub enum WordError {
     NoOne,
     /// Memory ran out, which says nothing of the word.
     OutOfMemory,
-}
-
-impl From<AllocError> for OutOfMemory {
-    fn from(_: AllocError) -> Self {
-        OutOfMemory
-    }
-}
-
-impl<T: Drop> From<AllocFailed<T>> for OutOfMemory {
-    fn from(_: AllocFailed<T>) -> Self {
-        OutOfMemory
-    }
 }
 
 impl From<AllocError> for WordError {

@@ -1,11 +1,22 @@
-ghost use Rattle.std.specs.Prelude.{◌≡◌, ◌⊎◌, ◌↔◌, length, IfOk, IfErr};
+ghost use Rattle.std.specs.Prelude.{◌≡◌, ◌⊎◌, ◌<◌, length, IfOk, IfErr};
 ghost use Rattle.lucy_word.specs.Bits.{ones_in};
 ghost use Rattle.lucy_word.specs.Shortest.{IsShortest};
 ghost use Rattle.lucy_word.specs.Stored.{IsStored};
 ghost use Rattle.lucy_word.specs.Complement.{IsComplement, turned};
 
 use crate::{Word, WordError};
-use std::alloc::Global;
+use std::alloc::{AllocError, Global};
+
+/// The word with every bit turned, where its period has a zero.
+pub fn turned(alloc: Global, word: &Word) -> Result<Word, AllocError>
+    requires { ones_in word.now.period < length word.now.period }
+    ensures is { IfOk result (λ w. w ≡ turned word.now) }
+    ensures stored { IfOk result IsStored }
+{
+    let prefix = word.prefix.turned(alloc)?;
+    let period = word.period.turned(alloc)?;
+    Ok(Word { prefix, period })
+}
 
 /// The word `not a`, with every bit turned. `NoOne` comes where the period of `a` has no zero. It never answers `BadWord`
 /// or `TooLong`.
@@ -20,7 +31,5 @@ pub fn complement(alloc: Global, a: &Word) -> Result<Word, WordError>
     if a.period.total() == a.period.len() as u64 {
         return Err(WordError::NoOne);
     }
-    let prefix = a.prefix.turned(alloc)?;
-    let period = a.period.turned(alloc)?;
-    Ok(Word { prefix, period })
+    Ok(turned(alloc, a)?)
 }

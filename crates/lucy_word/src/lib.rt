@@ -7,6 +7,7 @@
 //! How bits are kept, 64 to a number, is in `limbs.rt`, how they are made in `packed.rt`, and how digits become 64 at once in `digits.rt`.
 #![tactic(auto)]
 
+mod delay;
 mod digits;
 mod error;
 mod flip;
@@ -24,12 +25,14 @@ mod spelling;
 mod walk;
 mod word;
 
-pub use error::{OutOfMemory, WordError};
-pub use flip::complement;
+pub use delay::delayed;
+pub use error::WordError;
+pub use flip::{complement, turned};
 pub use form::Stage;
 pub use limit::Limit;
 pub use multiple::{gcd, lcm};
 pub use read::{Spelled, digits_spell_words};
-pub use sampling::on;
+pub use sampling::{on, sampled};
+pub use std::alloc::AllocError as OutOfMemory;
 pub use walk::Walk;
 pub use word::{Word, words_are_stored};

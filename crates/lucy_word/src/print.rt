@@ -5,8 +5,8 @@ ghost use Rattle.lucy_word.specs.Items.{digit_of};
 ghost use Rattle.lucy_word.specs.Packing.{is_set};
 ghost use Rattle.lucy_word.specs.Spelling.{run_text, spelled, text_of};
 
+use crate::Word;
 use crate::limbs::{Limbs, WIDTH};
-use crate::{OutOfMemory, Word};
 use std::alloc::{AllocError, Global};
 
 // The digit of a bit.
@@ -102,7 +102,7 @@ fn text(alloc: Global, word: &Word) -> Result<Vec<u8>, AllocError>
 impl Word {
     /// Appends the text of the word, as `0(01)`. In the prefix and in the period, each by itself, a greatest run of more than
     /// four equal digits is one digit with its count, as in `(1{720}000)`.
-    pub fn print(&self, alloc: Global, out: &mut Vec<u8>) -> Result<(), OutOfMemory>
+    pub fn print(&self, alloc: Global, out: &mut Vec<u8>) -> Result<(), AllocError>
         ensures ok { OnOk result (out.new.items ≡ out.old.items ++ text_of self.now) }
         ensures err { OnErr result (out.new.items ≡ out.old.items) }
     {

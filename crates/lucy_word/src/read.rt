@@ -3,11 +3,11 @@ ghost use Rattle.std.specs.Prelude.{◌≡◌, ◌⊎◌, ◌↔◌, ◌<◌, []
 ghost use Rattle.lucy_word.specs.Bits.{Bits, ones_in};
 ghost use Rattle.lucy_word.specs.Items.{digit_of};
 ghost use Rattle.lucy_word.specs.Spelling.{Spells};
-ghost use Rattle.lucy_word.specs.Reading.{RefusesText, IsReadable, OnlyAnswer};
+ghost use Rattle.lucy_word.specs.Reading.{RefusesWordText, IsReadable, OnlyAnswer};
 ghost use Rattle.lucy_word.specs.Stored.{IsStored};
 
-use crate::{Limit, OutOfMemory, Word, WordError, form, spelling};
-use std::alloc::Global;
+use crate::{Limit, Word, WordError, form, spelling};
+use std::alloc::{AllocError, Global};
 use std::marker::Model;
 
 /// A word as a text spells it, seen as the word. It takes no memory of its own, however many bits its counts stand for.
@@ -40,7 +40,7 @@ impl<'a> Spelled<'a> {
     /// the text.
     pub fn read(text: &'a [u8]) -> Result<Spelled<'a>, WordError>
         ensures ok { IfOk result (IsReadable text.now) }
-        ensures refused { IfErr result (RefusesText text.now) }
+        ensures refused { IfErr result (RefusesWordText text.now) }
     {
         if let Err(place) = form::check(text) {
             return Err(WordError::BadWord(place));
@@ -68,7 +68,7 @@ impl<'a> Spelled<'a> {
     }
 
     /// The word itself. It takes as long as the text, and as the bits that the text stands for.
-    pub fn word(&self, alloc: Global) -> Result<Word, OutOfMemory>
+    pub fn word(&self, alloc: Global) -> Result<Word, AllocError>
         ensures equal { IfOk result (λ w. w ≡ self.now) }
         ensures stored { IfOk result IsStored }
     {
@@ -83,15 +83,12 @@ impl Word {
     /// The word that the text spells. `OutOfMemory` says nothing of the text; else the answer is that of `Spelled::read`.
     pub fn read(alloc: Global, text: &[u8]) -> Result<Word, WordError>
         ensures ok { IfOk result (IsReadable text.now) }
-        ensures refused { IfErr result (λ e. (e ≡ WordError.OutOfMemory) ⊎ RefusesText text.now e) }
+        ensures refused { IfErr result (λ e. (e ≡ WordError.OutOfMemory) ⊎ RefusesWordText text.now e) }
         ensures only { OnlyAnswer text.now result }
         ensures stored { IfOk result IsStored }
     {
         let spelled = Spelled::read(text)?;
-        match spelled.word(alloc) {
-            Ok(word) => Ok(word),
-            Err(OutOfMemory) => Err(WordError::OutOfMemory),
-        }
+        Ok(spelled.word(alloc)?)
     }
 }
 

@@ -1,5 +1,5 @@
 // A clock on a clock, made a limb at a time from two walks.
-ghost use Rattle.std.specs.Prelude.{◌≡◌, ◌⊎◌, ◌↔◌, ℕ, ◌+◌, ◌^◌, ◌<◌, ◌≤◌, length, IfSome, IfNone, IfOk, IfErr, IsErrAnd};
+ghost use Rattle.std.specs.Prelude.{◌≡◌, ◌⊎◌, ◌↔◌, ℕ, ◌+◌, ◌^◌, ◌<◌, ◌≤◌, None, length, IfSome, IfNone, IfOk, IfErr, IsOkAnd, IsErrAnd};
 ghost use Rattle.lucy_word.specs.Bits.{IsWord, ones_in, most_bits};
 ghost use Rattle.lucy_word.specs.Sampling.{IsOn, bit_on, AreComputedLengths, IsOnTooLong};
 ghost use Rattle.lucy_word.specs.Shortest.{IsShortest};
@@ -81,18 +81,21 @@ fn steps(alloc: Global, a: &mut Walk, b: &mut Walk, len: usize) -> Result<Limbs,
 }
 
 // The prefix and the period of `a on b`, as long as they are computed and not yet in shortest form.
-fn on_bits(alloc: Global, a: &Word, b: &Word) -> Result<(Limbs, Limbs), WordError>
+fn on_bits(
+    alloc: Global,
+    a: &Word,
+    b: &Word,
+    prefix_len: u64,
+    period_len: u64,
+) -> Result<(Limbs, Limbs), AllocError>
+    requires lengths { AreComputedLengths a.now b.now prefix_len period_len }
+    requires few { prefix_len + period_len ≤ most_bits }
+    requires first { IsWord a.now }
+    requires second { IsWord b.now }
     ensures on { IfOk result (λ w. IsOn a.now b.now (record { prefix = w.0; period = w.1 })) }
     ensures has_one { IfOk result (λ w. 0 < ones_in w.1) }
-    ensures nonempty { IfOk result (λ w. 0 < length w.1) }
-    ensures lengths { IfOk result (λ w. AreComputedLengths a.now b.now (length w.0) (length w.1)) }
     ensures short { IfOk result (λ w. length w.0 + length w.1 ≤ most_bits) }
-    ensures too_long { IsErrAnd result (λ e. e ≡ WordError.TooLong) ↔ IsOnTooLong a.now b.now }
-    ensures refused { IfErr result (λ e. (e ≡ WordError.OutOfMemory) ⊎ (e ≡ WordError.TooLong)) }
 {
-    let Some((prefix_len, period_len)) = computed_lengths(a, b) else {
-        return Err(WordError::TooLong);
-    };
     let mut kept = a.walk();
     let mut read = b.walk();
     let prefix = steps(alloc, &mut kept, &mut read, prefix_len as usize)?;
@@ -100,11 +103,23 @@ fn on_bits(alloc: Global, a: &Word, b: &Word) -> Result<(Limbs, Limbs), WordErro
     Ok((prefix, period))
 }
 
-/// The clock `a on b`: of the ones of `a` those are kept whose number is that of a one of `b` (Cohen and others 2006).
-///
-/// `TooLong` comes where its computed length is more than `Limit::Word` allows: the greater of the length of the prefix of `a` and the
-/// place of the one of `a` that reads the last bit of the prefix of `b`, and the periods of `a` whose ones are the least
-/// common multiple of those of one period and the length of the period of `b`. It never answers `BadWord` or `NoOne`.
+/// The clock `a on b`: of the ones of `a` those are kept whose number is that of a one of `b` (Cohen and others 2006). There is none
+/// where its computed length is more than `Limit::Word` allows: the greater of the length of the prefix of `a` and the place of the one of
+/// `a` that reads the last bit of the prefix of `b`, and the periods of `a` whose ones are the least common multiple of those of one
+/// period and the length of the period of `b`.
+pub fn sampled(alloc: Global, a: &Word, b: &Word) -> Result<Option<Word>, AllocError>
+    ensures is { IfOk result (λ made. IfSome made (IsOn a.now b.now)) }
+    ensures stored { IfOk result (λ made. IfSome made IsStored) }
+    ensures too_long { IsOkAnd result (λ made. made ≡ None) ↔ IsOnTooLong a.now b.now }
+{
+    let Some((prefix_len, period_len)) = computed_lengths(a, b) else {
+        return Ok(None);
+    };
+    let (prefix, period) = on_bits(alloc, a, b, prefix_len, period_len)?;
+    Ok(Some(Word::shortest(alloc, prefix, period)?))
+}
+
+/// The clock `a on b`, as [`sampled`] gives it; `TooLong` comes where there is none. It never answers `BadWord` or `NoOne`.
 pub fn on(alloc: Global, a: &Word, b: &Word) -> Result<Word, WordError>
     ensures ok { IfOk result (IsOn a.now b.now) }
     ensures shortest { IfOk result IsShortest }
@@ -112,6 +127,8 @@ pub fn on(alloc: Global, a: &Word, b: &Word) -> Result<Word, WordError>
     ensures too_long { IsErrAnd result (λ e. e ≡ WordError.TooLong) ↔ IsOnTooLong a.now b.now }
     ensures refused { IfErr result (λ e. (e ≡ WordError.OutOfMemory) ⊎ (e ≡ WordError.TooLong)) }
 {
-    let (prefix, period) = on_bits(alloc, a, b)?;
-    Ok(Word::shortest(alloc, prefix, period)?)
+    match sampled(alloc, a, b)? {
+        Some(word) => Ok(word),
+        None => Err(WordError::TooLong),
+    }
 }

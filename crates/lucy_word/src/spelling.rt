@@ -2,7 +2,7 @@
 ghost use Rattle.std.specs.Prelude.{◌≡◌, ◌++◌, ◌∷◌, ◌<◌, ◌≤◌, ℕ, List, length, IfOk, IfSome, MatchOption};
 ghost use Rattle.lucy_word.specs.Bits.{ones_in};
 ghost use Rattle.std.specs.List.{prefix_len, AllByRecursion};
-ghost use Rattle.lucy_word.specs.Items.{Item, Form, IsItem, IsForm, form_text, items_text, items_bits};
+ghost use Rattle.lucy_word.specs.Items.{WordItem, WordForm, IsItem, IsForm, form_text, items_text, items_bits};
 ghost use Rattle.lucy_word.specs.Cutting.{IsSplit, IsCounted, IsTimes, AddsUp, ones_of, is_no_open, most_count};
 
 use crate::Limit;
@@ -31,7 +31,7 @@ fn prefix_end(text: &[u8]) -> usize
 
 // The text of the prefix, and that of the period.
 pub(crate) fn parts(text: &[u8]) -> (&[u8], &[u8])
-    ensures { (f : Form) → IsForm f → text.now ≡ form_text f → IsSplit result.0.now result.1.now f }
+    ensures { (f : WordForm) → IsForm f → text.now ≡ form_text f → IsSplit result.0.now result.1.now f }
 {
     let n = prefix_end(text);
     let (prefix, rest) = text.split_at(n);
@@ -110,7 +110,7 @@ fn first(items: &[u8]) -> Option<(Sums, &[u8])>
 // What items stand for, counted; none where they are more bits than so many, which are no more than a written word may have.
 pub(crate) fn add_up(items: &[u8], most: u64) -> Option<Sums>
     requires { most < most_count }
-    ensures sums { (is : List Item) → AllByRecursion IsItem is → items.now ≡ items_text is → MatchOption result (most < length (items_bits is)) (λ s. (s.bits ≡ length (items_bits is)) × (s.ones ≡ ones_in (items_bits is))) }
+    ensures sums { (is : List WordItem) → AllByRecursion IsItem is → items.now ≡ items_text is → MatchOption result (most < length (items_bits is)) (λ s. (s.bits ≡ length (items_bits is)) × (s.ones ≡ ones_in (items_bits is))) }
     ensures within { IfSome result (λ s. (s.ones ≤ s.bits) × (s.bits ≤ most)) }
 {
     let mut sums = Sums { bits: 0, ones: 0 };
@@ -128,7 +128,7 @@ pub(crate) fn add_up(items: &[u8], most: u64) -> Option<Sums>
 
 // The bits that items stand for, where they are no more than a written word may have.
 pub(crate) fn bits(alloc: Global, items: &[u8]) -> Result<Limbs, AllocError>
-    ensures { IfOk result (λ v. (is : List Item) → AllByRecursion IsItem is → items.now ≡ items_text is → length (items_bits is) < most_count → v ≡ items_bits is) }
+    ensures { IfOk result (λ v. (is : List WordItem) → AllByRecursion IsItem is → items.now ≡ items_text is → length (items_bits is) < most_count → v ≡ items_bits is) }
 {
     let most = Limit::Written.number();
     let mut bits = Packed::new(alloc);

@@ -5,7 +5,7 @@ ghost use Rattle.lucy_word.specs.Stored.{IsStored};
 
 use crate::limbs::Limbs;
 use crate::shortest::shorten;
-use crate::{Limit, OutOfMemory, Walk, WordError};
+use crate::{Limit, Walk, WordError};
 use std::alloc::{AllocError, Global};
 use std::marker::Model;
 
@@ -74,7 +74,7 @@ impl Word {
     }
 
     /// An equal word.
-    pub fn copy(&self, alloc: Global) -> Result<Word, OutOfMemory>
+    pub fn copy(&self, alloc: Global) -> Result<Word, AllocError>
         ensures equal { IfOk result (λ w. w ≡ self.now) }
         ensures stored { IfOk result IsStored }
     {

@@ -5,6 +5,7 @@ use Rattle.std.specs.Option.{option_map}
 use Rattle.std.proofs.lemmas.Bool.{cases_eq}
 use Rattle.std.proofs.lemmas.Option.{slice_get-map, slice_get-get_or, slice_get_within, get_or_from_slice_get}
 use Rattle.std.proofs.lemmas.List.{length-map}
+use Rattle.lucy_word.proofs.Lists.{get_set_other}
 use Rattle.lucy_host.specs.declared.kind.HostKind.{HostKind}
 use Rattle.lucy_ring.specs.Views.{GiverView, TakerView}
 use Rattle.lucy_worker.specs.declared.part.Part.{Part}
@@ -12,7 +13,7 @@ use Rattle.lucy_worker.specs.declared.place.EndPlace.{EndPlace}
 use Rattle.lucy_worker.specs.Turns.{HasRun, HaveRun, giver_name, taker_name}
 use Rattle.lucy_worker.specs.Meets.{HasGiver, HasTaker, MetBetween, MetWithin, set_giver, set_taker, with_giver, with_taker}
 use Rattle.lucy_worker.specs.Laws.{KeepsGiver, KeepsTaker, IsPlace, OthersStay, AreEndsAt}
-use Rattle.lucy_worker.proofs.WithinLaws.{get_beside, get_set}
+use Rattle.lucy_worker.proofs.WithinLaws.{get_set}
 
 -- there is one end at a place
 pub one_giver : (ps : List Part) (place : EndPlace) (g h : HasGiver ps place) → g.end ≡ h.end
@@ -86,11 +87,11 @@ giver_set ps giver g h =
                 part = p;
                 part_is = ap (slice_get (set_giver ps giver g h)) same ∙ here;
                 end = was.end;
-                end_is = get_beside g.part.givers.items giver.number place.number h (λ e. ne (same, e)) ∙ end;
+                end_is = get_set_other g.part.givers.items giver.number place.number h (λ e. ne (same, e)) ∙ end;
               },
               refl,
             )
-        | inr other ↦ (record { part = was.part; part_is = get_beside ps giver.part place.part p other ∙ was.part_is; end = was.end; end_is = was.end_is }, refl)
+        | inr other ↦ (record { part = was.part; part_is = get_set_other ps giver.part place.part p other ∙ was.part_is; end = was.end; end_is = was.end_is }, refl)
       ];
       takers = λ place ne was. elim (cases_eq place.part giver.part) [
         | inl same ↦
@@ -98,7 +99,7 @@ giver_set ps giver g h =
             let part : was.part ≡ g.part = cc in
             let end : slice_get g.part.takers.items place.number ≡ Some was.end = ap (λ (x : Part). slice_get x.takers.items place.number) (sym part) ∙ was.end_is in
             (record { part = p; part_is = ap (slice_get (set_giver ps giver g h)) same ∙ here; end = was.end; end_is = end }, refl)
-        | inr other ↦ (record { part = was.part; part_is = get_beside ps giver.part place.part p other ∙ was.part_is; end = was.end; end_is = was.end_is }, refl)
+        | inr other ↦ (record { part = was.part; part_is = get_set_other ps giver.part place.part p other ∙ was.part_is; end = was.end; end_is = was.end_is }, refl)
       ];
     }
 
@@ -114,7 +115,7 @@ taker_set ps taker t u =
             let part : was.part ≡ t.part = cc in
             let end : slice_get t.part.givers.items place.number ≡ Some was.end = ap (λ (x : Part). slice_get x.givers.items place.number) (sym part) ∙ was.end_is in
             (record { part = p; part_is = ap (slice_get (set_taker ps taker t u)) same ∙ here; end = was.end; end_is = end }, refl)
-        | inr other ↦ (record { part = was.part; part_is = get_beside ps taker.part place.part p other ∙ was.part_is; end = was.end; end_is = was.end_is }, refl)
+        | inr other ↦ (record { part = was.part; part_is = get_set_other ps taker.part place.part p other ∙ was.part_is; end = was.end; end_is = was.end_is }, refl)
       ];
       takers = λ place ne was. elim (cases_eq place.part taker.part) [
         | inl same ↦
@@ -125,11 +126,11 @@ taker_set ps taker t u =
                 part = p;
                 part_is = ap (slice_get (set_taker ps taker t u)) same ∙ here;
                 end = was.end;
-                end_is = get_beside t.part.takers.items taker.number place.number u (λ e. ne (same, e)) ∙ end;
+                end_is = get_set_other t.part.takers.items taker.number place.number u (λ e. ne (same, e)) ∙ end;
               },
               refl,
             )
-        | inr other ↦ (record { part = was.part; part_is = get_beside ps taker.part place.part p other ∙ was.part_is; end = was.end; end_is = was.end_is }, refl)
+        | inr other ↦ (record { part = was.part; part_is = get_set_other ps taker.part place.part p other ∙ was.part_is; end = was.end; end_is = was.end_is }, refl)
       ];
     }
 
@@ -157,7 +158,7 @@ taker_there ps taker t u = (
 )
 
 -- ends of which the names are told are those of one ring
-ends_at : (ps qs : List Part) (giver taker : EndPlace) (x : HasGiver ps giver) (y : HasTaker qs taker) → x.end.ring ≡ y.end.ring → AreEndsAt ps giver qs taker
+pub ends_at : (ps qs : List Part) (giver taker : EndPlace) (x : HasGiver ps giver) (y : HasTaker qs taker) → x.end.ring ≡ y.end.ring → AreEndsAt ps giver qs taker
 ends_at ps qs giver taker x y same = record {
   giver = x;
   taker = y;

@@ -217,7 +217,8 @@ moved_on kinds ps qs rs run moved more k d l can =
     let y = moved k d l can in
     omega arith
 
-sums_le : (ps qs : List Part) → length qs ≡ length ps → ((k : ℕ) (d : Part) → k < length ps → done_of (get_or ps k d) ≤ done_of (get_or qs k d)) → done_by ps ≤ done_by qs
+-- parts that have run have done no less
+pub sums_le : (ps qs : List Part) → length qs ≡ length ps → ((k : ℕ) (d : Part) → k < length ps → done_of (get_or ps k d) ≤ done_of (get_or qs k d)) → done_by ps ≤ done_by qs
 sums_le [] qs len h = omega arith
 sums_le (p ∷ ps) [] len h = absurd (omega arith)
 sums_le (p ∷ ps) (q ∷ qs) len h =

@@ -3,6 +3,8 @@ use Rattle.std.proofs.Common.{ℕ, suc, zero, ◌-◌, ◌<◌, ◌≡◌, List,
 use Rattle.std.specs.Prelude.{Some, slice_get}
 use Rattle.std.proofs.lemmas.Option.{get_or_from_slice_get}
 use Rattle.std.proofs.lemmas.List.{set-set, set-append_left, set-append_right, length-set}
+use Rattle.lucy_word.proofs.Lists.{get_set_other}
+use Rattle.lucy_host.proofs.Elements.{get_left}
 use Rattle.lucy_ring.specs.Views.{GiverView, TakerView}
 use Rattle.lucy_worker.specs.declared.part.Part.{Part}
 use Rattle.lucy_worker.specs.declared.place.EndPlace.{EndPlace}
@@ -10,25 +12,13 @@ use Rattle.lucy_worker.specs.Meets.{HaveMet, with_giver, with_taker, set_giver, 
 use Rattle.lucy_worker.specs.Readiness.{AreReady}
 use Rattle.lucy_worker.proofs.MeetLaws.{read_within, giver_set, taker_set, both_set, giver_is, taker_is}
 
--- an element of a list beside one that was set, and that one
-pub get_beside : {X : Type 0} (xs : List X) (i j : ℕ) (y : X) → (j ≡ i → ⊥) → slice_get (set xs i y) j ≡ slice_get xs j
-get_beside [] i j y ne = refl
-get_beside (x ∷ xs) zero zero y ne = absurd (ne refl)
-get_beside (x ∷ xs) zero (suc j) y ne = refl
-get_beside (x ∷ xs) (suc i) zero y ne = refl
-get_beside (x ∷ xs) (suc i) (suc j) y ne = get_beside xs i j y (λ (e : j ≡ i). ne (ap suc e))
-
+-- the element of a list that was set
 pub get_set : {X : Type 0} (xs : List X) (i : ℕ) (x y : X) → slice_get xs i ≡ Some x → slice_get (set xs i y) i ≡ Some y
 get_set [] i x y e = absurd (cc)
 get_set (z ∷ xs) zero x y e = refl
 get_set (z ∷ xs) (suc i) x y e = get_set xs i x y e
 
 -- elements of a list that was cut in two
-pub get_left : {X : Type 0} (l r : List X) (i : ℕ) → i < length l → slice_get (l ++ r) i ≡ slice_get l i
-get_left [] r i less = absurd (omega arith)
-get_left (x ∷ l) r zero less = refl
-get_left (x ∷ l) r (suc i) less = get_left l r i (omega arith)
-
 pub get_right : {X : Type 0} (l r : List X) (t : ℕ) → length l ≡ t → slice_get (l ++ r) t ≡ slice_get r 0
 get_right [] r zero len = refl
 get_right [] r (suc t) len = absurd (omega arith)
@@ -66,7 +56,7 @@ far : (ps met : List Part) (giver taker : EndPlace) (a b : Part) (g : HasGiver p
     giver taker met
 far ps met giver taker a b g t h u ready other meets is_a is_b e =
     let mid : List Part = set_giver ps giver g h in
-    let still : slice_get mid taker.part ≡ Some t.part = get_beside ps giver.part taker.part (with_giver g.part giver.number h) other ∙
+    let still : slice_get mid taker.part ≡ Some t.part = get_set_other ps giver.part taker.part (with_giver g.part giver.number h) other ∙
     t.part_is in
     let is : met ≡ set mid taker.part (with_taker t.part taker.number u) = e ∙ ap (λ (x : Part). set (set ps giver.part x) taker.part b)
     is_a ∙ ap (λ (x : Part). set mid taker.part x) is_b in

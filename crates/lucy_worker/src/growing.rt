@@ -9,11 +9,12 @@ ghost use Rattle.lucy_worker.specs.Readiness.{IsReady};
 
 use crate::part::Part;
 use lucy_net::{Actor, ActorKind, ActorState};
-use lucy_word::{OutOfMemory, Word};
+use lucy_word::Word;
+use std::alloc::AllocError;
 
 impl Part {
     // Makes room for so many more items of the input and of the output.
-    pub(crate) fn reserve(&mut self, items: u64, room: u64) -> Result<(), OutOfMemory>
+    pub(crate) fn reserve(&mut self, items: u64, room: u64) -> Result<(), AllocError>
         ensures spared { HasSpared self.old self.new }
         ensures ok { OnOk result (HasSpare items room self.new) }
     {

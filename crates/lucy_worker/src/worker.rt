@@ -17,8 +17,7 @@ use crate::place::EndPlace;
 use crate::within::meet_within;
 use lucy_host::Host;
 use lucy_ring::meet;
-use lucy_word::OutOfMemory;
-use std::alloc::Global;
+use std::alloc::{AllocError, Global};
 use std::marker::Model;
 
 /// The actors that one thread moves.
@@ -159,7 +158,7 @@ impl Worker {
         part: u32,
         items: u64,
         room: u64,
-    ) -> Result<(), OutOfMemory>
+    ) -> Result<(), AllocError>
         requires there { part < length self.old.parts }
         ensures number { self.new.number ≡ self.old.number }
         ensures spared { (d : Part) → (q : Part) × HasSpared (slice_index_or self.old.parts part d) q

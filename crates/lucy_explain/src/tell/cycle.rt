@@ -12,7 +12,7 @@ use crate::tell::row::{Point, Row, point_of, row_at};
 use lucy_need::Needs;
 use lucy_shape::Shape;
 use lucy_solve::Diffs;
-use lucy_word::OutOfMemory;
+use std::alloc::AllocError;
 
 /// What the evidence of a node without clocks is about.
 #[derive(Clone, Copy)]
@@ -179,7 +179,7 @@ pub(crate) fn put_cycle(
     page: &mut Page<'_>,
     about: Evidence<'_>,
     cycle: &[u32],
-) -> Result<(), OutOfMemory>
+) -> Result<(), AllocError>
     requires clocks { length about.shape.now.clocks ≡ about.needs.now.clocks }
     requires variables { about.diffs.now.count ≡ variable_count about.shape.now.clocks }
     requires there { AreBelow (length about.diffs.now.list) cycle.now }

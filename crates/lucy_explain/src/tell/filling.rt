@@ -24,8 +24,8 @@ use lucy_place::PlaceEntry;
 use lucy_program::{Accepted, Options, first_operand};
 use lucy_shape::Shape;
 use lucy_tree::Span;
-use lucy_word::{Limit, OutOfMemory, Word, gcd};
-use std::alloc::Global;
+use lucy_word::{Limit, Word, gcd};
+use std::alloc::{AllocError, Global};
 
 /// A buffer: its number, the place that it reads and its own, the words of both, and its printed size.
 #[derive(Clone, Copy)]
@@ -164,7 +164,7 @@ fn put_waits(page: &mut Page<'_>, waits: &[u64], before: u64) {
 }
 
 // Puts what its words say of a buffer last, and answers its first item that waits when it is fullest first.
-fn put_words(page: &mut Page<'_>, held: Held<'_>) -> Result<Option<u64>, OutOfMemory> {
+fn put_words(page: &mut Page<'_>, held: Held<'_>) -> Result<Option<u64>, AllocError> {
     let Some((prefix, end)) = turn_of(held.write, held.read) else {
         page.say("its words come again too late to tell when it is fullest\n");
         return Ok(None);
@@ -229,7 +229,7 @@ fn put_chain(
     held: Held<'_>,
     item: FoldedItem,
     reason: &Reason,
-) -> Result<(), OutOfMemory>
+) -> Result<(), AllocError>
     requires shape { IsShapeFor needs.now shape.now }
     requires reason { IsReasonFor needs.now shape.now reason.now }
 {
@@ -259,7 +259,7 @@ fn put_late(
     shaped: &Shaped,
     held: Held<'_>,
     number: u64,
-) -> Result<(), OutOfMemory>
+) -> Result<(), AllocError>
     requires { IsShapeFor shaped.now.needs shaped.now.shape }
 {
     let Some(item) = folded_item(&shaped.shape, held.to, number) else {
@@ -310,7 +310,7 @@ fn put_shaped(
     shaped: &Shaped,
     held: Held<'_>,
     item: u64,
-) -> Result<(), OutOfMemory>
+) -> Result<(), AllocError>
     requires { IsShapeFor shaped.now.needs shaped.now.shape }
 {
     put_late(page, scene, shaped, held, item)?;
@@ -327,7 +327,7 @@ fn put_shape(
     node: u32,
     held: Held<'_>,
     item: u64,
-) -> Result<(), OutOfMemory>
+) -> Result<(), AllocError>
     requires options { AreOptions options.now }
     requires accepted { (ops : List Operator) × (o : Choices) × (text : List ℕ) × IsAccepted ops o text accepted.now }
     requires node { node < length accepted.now.placed.nodes }
@@ -350,7 +350,7 @@ fn put_buffer(
     options: &Options,
     node: u32,
     held: Held<'_>,
-) -> Result<(), OutOfMemory>
+) -> Result<(), AllocError>
     requires options { AreOptions options.now }
     requires accepted { (ops : List Operator) × (o : Choices) × (text : List ℕ) × IsAccepted ops o text accepted.now }
     requires node { node < length accepted.now.placed.nodes }
@@ -371,7 +371,7 @@ pub(crate) fn filled(
     options: &Options,
     node: u32,
     buffer: u32,
-) -> Result<(Vec<u8>, Vec<Span>), OutOfMemory>
+) -> Result<(Vec<u8>, Vec<Span>), AllocError>
     requires options { AreOptions options.now }
     requires accepted { (ops : List Operator) × (o : Choices) × (text : List ℕ) × IsAccepted ops o text accepted.now }
     requires node { node < length accepted.now.placed.nodes }

@@ -2,8 +2,8 @@
 use lucy_picture::{put_kind, put_place, put_spot, spot_of};
 use lucy_place::{PlaceKind, PlacedNode};
 use lucy_tree::{Expr, Span};
-use lucy_word::{OutOfMemory, Word};
-use std::alloc::Global;
+use lucy_word::Word;
+use std::alloc::{AllocError, Global};
 
 /// What is told of a text so far. Where memory runs out, it is full, and what comes then may be left out.
 #[derive(Drop)]
@@ -130,7 +130,7 @@ impl<'a> Page<'a> {
     }
 
     /// What is told, and the spans of which is told.
-    pub(crate) fn told(self) -> Result<(Vec<u8>, Vec<Span>), OutOfMemory> {
+    pub(crate) fn told(self) -> Result<(Vec<u8>, Vec<Span>), AllocError> {
         let Page {
             out,
             spans,
@@ -138,7 +138,7 @@ impl<'a> Page<'a> {
             ..
         } = self;
         if full {
-            Err(OutOfMemory)
+            Err(AllocError)
         } else {
             Ok((out, spans))
         }

@@ -3,8 +3,7 @@ use crate::tell::page::Page;
 use lucy_clock::NodeClock;
 use lucy_place::{Placed, PlacedNode};
 use lucy_program::Accepted;
-use lucy_word::OutOfMemory;
-use std::alloc::Global;
+use std::alloc::{AllocError, Global};
 
 // Counts the nodes that a node calls once more for each time that it is there itself.
 fn count_calls(counts: &mut [u64], node: &PlacedNode, own: u64) {
@@ -17,7 +16,7 @@ fn count_calls(counts: &mut [u64], node: &PlacedNode, own: u64) {
 }
 
 // How often each node is there, where the last one is there once and calls are written out.
-fn instances(alloc: Global, placed: &Placed) -> Result<Vec<u64>, OutOfMemory> {
+fn instances(alloc: Global, placed: &Placed) -> Result<Vec<u64>, AllocError> {
     let nodes = placed.nodes();
     let mut counts = vec![in alloc; 0u64; nodes as usize]?;
     for i in 0..nodes {
@@ -50,7 +49,7 @@ fn all_sizes(counts: &[u64], clocks: &[NodeClock]) -> u64 {
 }
 
 /// Puts the sum of the sizes of all buffers last, with calls written out.
-pub(crate) fn put_all_sizes(page: &mut Page<'_>, accepted: &Accepted) -> Result<(), OutOfMemory> {
+pub(crate) fn put_all_sizes(page: &mut Page<'_>, accepted: &Accepted) -> Result<(), AllocError> {
     let counts = instances(page.alloc, &accepted.placed)?;
     page.say("all buffers of the program together, with its calls written out: size ");
     page.number(all_sizes(&counts, &accepted.clocks));

@@ -2,8 +2,8 @@
 use crate::tell::page::Page;
 use lucy_syntax::{SyntaxError, parse};
 use lucy_tree::Span;
-use lucy_word::{Limit, OutOfMemory, Word, WordError};
-use std::alloc::Global;
+use lucy_word::{Limit, Word, WordError};
+use std::alloc::{AllocError, Global};
 
 // Fronts of more bytes aren't tried with what could follow.
 const TRIED: usize = 65_536;
@@ -19,14 +19,14 @@ const MARKS: &str =
 const SIGNS: [&str; 7] = ["::", "==", "!=", "<=", ">=", "&&", "||"];
 
 // Whether a token may follow this front: then what is refused is no earlier than the end.
-fn may_follow(alloc: Global, front: &[u8], token: &[u8]) -> Result<bool, OutOfMemory> {
+fn may_follow(alloc: Global, front: &[u8], token: &[u8]) -> Result<bool, AllocError> {
     let mut text = front.to_vec(alloc)?;
     text.push(b' ')?;
     text.extend_from_slice(token)?;
     match parse(alloc, &text) {
         Ok(_) => Ok(true),
         Err(SyntaxError::Unexpected(at)) => Ok(at >= text.len() as u64),
-        Err(SyntaxError::OutOfMemory) => Err(OutOfMemory),
+        Err(SyntaxError::OutOfMemory) => Err(AllocError),
         Err(_) => Ok(false),
     }
 }

@@ -10,7 +10,6 @@ use lucy_diagram::{DrawnPlace, Figure, put_there};
 use lucy_place::PlacedNode;
 use lucy_program::Accepted;
 use lucy_tree::Program;
-use lucy_word::OutOfMemory;
 use std::alloc::{AllocError, Global};
 
 /// The place of a number from 0.
@@ -70,7 +69,7 @@ fn inner_text(
     found: &PlacedNode,
     before: &[u8],
     place: u32,
-) -> Result<Vec<u8>, OutOfMemory>
+) -> Result<Vec<u8>, AllocError>
     ensures { IfOk result (λ v. v.items
         ≡ spec.inner_text (program_tree program.now) accepted.now node found.now before.now place) }
 {
@@ -101,7 +100,7 @@ pub(crate) fn put_box(
     place: u32,
     figure: Figure,
     out: &mut Vec<u8>,
-) -> Result<(), OutOfMemory>
+) -> Result<(), AllocError>
     ensures { OnOk result (out.new.items ≡ out.old.items
         ++ spec.box_text (program_tree program.now) accepted.now node found.now before.now place figure) }
 {

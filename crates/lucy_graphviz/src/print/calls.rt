@@ -13,7 +13,6 @@ use lucy_place::PlacedNode;
 use lucy_program::Accepted;
 use lucy_text::Text;
 use lucy_tree::Program;
-use lucy_word::OutOfMemory;
 use std::alloc::{AllocError, Global};
 
 // The word of a call's base, behind `at`.
@@ -82,7 +81,7 @@ fn put_result(
     number: u32,
     place: u32,
     out: &mut Vec<u8>,
-) -> Result<(), OutOfMemory>
+) -> Result<(), AllocError>
     ensures { OnOk result (out.new.items ≡ out.old.items
         ++ spec.result_text (program_tree program.now) accepted.now node found.now number place) }
 {
@@ -105,7 +104,7 @@ fn put_results(
     found: &PlacedNode,
     call: &DrawnCall,
     out: &mut Vec<u8>,
-) -> Result<(), OutOfMemory>
+) -> Result<(), AllocError>
     requires { call.now.first + call.now.results < 2 ^ 32 }
     ensures { OnOk result (out.new.items ≡ out.old.items
         ++ spec.results_text (program_tree program.now) accepted.now node found.now call.now) }
@@ -135,7 +134,7 @@ fn put_call(
     labels: &[Text],
     call: &DrawnCall,
     out: &mut Vec<u8>,
-) -> Result<(), OutOfMemory>
+) -> Result<(), AllocError>
     requires { call.now.first + call.now.results < 2 ^ 32 }
     ensures { OnOk result (out.new.items ≡ out.old.items
         ++ spec.call_text (program_tree program.now) accepted.now node found.now labels.now call.now) }
@@ -165,7 +164,7 @@ pub(crate) fn put_calls(
     labels: &[Text],
     calls: &[DrawnCall],
     out: &mut Vec<u8>,
-) -> Result<(), OutOfMemory>
+) -> Result<(), AllocError>
     requires { (i : ℕ) (call : Drawn) → slice_get calls.now i ≡ Some call → call.first + call.results < 2 ^ 32 }
     ensures { OnOk result (out.new.items ≡ out.old.items
         ++ flat_map (spec.call_text (program_tree program.now) accepted.now node found.now labels.now) calls.now) }

@@ -7,7 +7,6 @@ use lucy_diagram::put_name;
 use lucy_picture::words_at;
 use lucy_place::{CallSite, PlacedNode};
 use lucy_program::Accepted;
-use lucy_word::OutOfMemory;
 use std::alloc::{AllocError, Global};
 
 /// The calls that lead to the instance of a call, by the call's number, of the instance that this path leads to.
@@ -28,7 +27,7 @@ fn put_base(
     found: &PlacedNode,
     call: usize,
     out: &mut Vec<u8>,
-) -> Result<(), OutOfMemory>
+) -> Result<(), AllocError>
     requires { length found.now.places + call < 2 ^ 64 }
     ensures { OnOk result (out.new.items ≡ out.old.items ++ spec.base_label accepted.now.clocks.items node found.now call) }
 {
@@ -47,7 +46,7 @@ fn call_label(
     found: &PlacedNode,
     site: &CallSite,
     call: usize,
-) -> Result<Vec<u8>, OutOfMemory>
+) -> Result<Vec<u8>, AllocError>
     requires { length found.now.places + call < 2 ^ 64 }
     ensures { IfOk result (λ v. v.items
         ≡ spec.call_label accepted.now.placed.nodes (spec.base_label accepted.now.clocks.items node found.now call) call site.now) }
@@ -70,7 +69,7 @@ pub(crate) fn put_frame(
     call: usize,
     begin: u64,
     out: &mut Vec<u8>,
-) -> Result<(), OutOfMemory>
+) -> Result<(), AllocError>
     requires { length found.now.places + call < 2 ^ 64 }
     ensures { OnOk result (out.new.items ≡ out.old.items
         ++ spec.frame_text (spec.call_label accepted.now.placed.nodes (spec.base_label accepted.now.clocks.items node found.now call) call site.now) begin) }

@@ -19,8 +19,7 @@ use lucy_diagram::{DrawnPlace, places};
 use lucy_place::{CallSite, PlacedNode};
 use lucy_program::Accepted;
 use lucy_tree::Program;
-use lucy_word::OutOfMemory;
-use std::alloc::Global;
+use std::alloc::{AllocError, Global};
 
 // Puts the box of an actor last.
 fn put_actor(
@@ -33,7 +32,7 @@ fn put_actor(
     actor: u64,
     drawn: DrawnPlace,
     out: &mut Vec<u8>,
-) -> Result<(), OutOfMemory>
+) -> Result<(), AllocError>
     ensures { OnOk result (out.new.items ≡ out.old.items
         ++ spec.actor_text (program_tree program.now) accepted.now node found.now path.now actor drawn) }
 {
@@ -62,7 +61,7 @@ fn put_drawn(
     begin: u64,
     drawn: &[DrawnPlace],
     out: &mut Vec<u8>,
-) -> Result<(), OutOfMemory>
+) -> Result<(), AllocError>
     requires { begin + length drawn.now < 2 ^ 64 }
     ensures { OnOk result (out.new.items ≡ out.old.items
         ++ spec.numbered (spec.actor_text (program_tree program.now) accepted.now node found.now path.now) begin drawn.now) }
@@ -87,7 +86,7 @@ fn put_actors(
     path: &[u8],
     begin: u64,
     out: &mut Vec<u8>,
-) -> Result<(), OutOfMemory>
+) -> Result<(), AllocError>
     requires places { length found.now.places ≤ most_places }
     requires few { begin + length found.now.places < 2 ^ 64 }
     ensures { OnOk result (out.new.items ≡ out.old.items
@@ -120,7 +119,7 @@ fn put_instance(
     path: &[u8],
     begin: u64,
     out: &mut Vec<u8>,
-) -> Result<u64, OutOfMemory>
+) -> Result<u64, AllocError>
     requires proper { AreProper accepted.now.placed.nodes }
     requires node { node < length accepted.now.placed.nodes }
     requires few { begin + size_of accepted.now.placed.nodes node < 2 ^ 64 }
@@ -150,7 +149,7 @@ fn put_main(
     main: u32,
     name: &[u8],
     out: &mut Vec<u8>,
-) -> Result<(), OutOfMemory>
+) -> Result<(), AllocError>
     requires proper { AreProper accepted.now.placed.nodes }
     requires some { 0 < length accepted.now.placed.nodes }
     requires main { main ≡ length accepted.now.placed.nodes - 1 }
@@ -172,7 +171,7 @@ pub(crate) fn put_program(
     program: &Program,
     accepted: &Accepted,
     out: &mut Vec<u8>,
-) -> Result<(), OutOfMemory>
+) -> Result<(), AllocError>
     requires { (ops : List Operator) × (o : Choices) × (text : List ℕ) × IsAccepted ops o text accepted.now }
     ensures { (n : Node) → slice_get accepted.now.placed.nodes (length accepted.now.placed.nodes - 1) ≡ Some n → OnOk result (out.new.items ≡ out.old.items
         ++ spec.net_text (program_tree program.now) accepted.now n.name.text) }

@@ -8,7 +8,7 @@ use crate::quote::put_quoted;
 use lucy_picture::words_at;
 use lucy_program::Accepted;
 use lucy_text::Text;
-use lucy_word::{OutOfMemory, Word};
+use lucy_word::Word;
 use std::alloc::{AllocError, Global};
 
 // How many bytes of a text are shown, where it has more.
@@ -51,7 +51,7 @@ fn front_of(alloc: Global, text: &[u8]) -> Result<Vec<u8>, AllocError>
 }
 
 // A text, cut off where it is long.
-fn cut(alloc: Global, text: &[u8]) -> Result<Text, OutOfMemory>
+fn cut(alloc: Global, text: &[u8]) -> Result<Text, AllocError>
     ensures { IfOk result (λ t. t ≡ spec.cut_text text.now) }
 {
     if text.len() <= SHOWN {
@@ -61,7 +61,7 @@ fn cut(alloc: Global, text: &[u8]) -> Result<Text, OutOfMemory>
 }
 
 /// The text of a word, cut off where it is long.
-pub(crate) fn word_label(alloc: Global, word: &Word) -> Result<Text, OutOfMemory>
+pub(crate) fn word_label(alloc: Global, word: &Word) -> Result<Text, AllocError>
     ensures { IfOk result (λ text. text ≡ spec.word_label word.now) }
 {
     let mut text = Vec::new(alloc);
@@ -74,7 +74,7 @@ pub(crate) fn word_labels(
     alloc: Global,
     accepted: &Accepted,
     node: u32,
-) -> Result<Vec<Text>, OutOfMemory>
+) -> Result<Vec<Text>, AllocError>
     ensures { IfOk result (λ v. v.items ≡ map spec.word_label (words_in (slice_get accepted.now.clocks.items node))) }
 {
     let mut labels = Vec::new(alloc);

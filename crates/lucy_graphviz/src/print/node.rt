@@ -20,8 +20,7 @@ use lucy_place::PlacedNode;
 use lucy_program::Accepted;
 use lucy_text::Text;
 use lucy_tree::Program;
-use lucy_word::OutOfMemory;
-use std::alloc::Global;
+use std::alloc::{AllocError, Global};
 
 // Whether a place's box stands on its own: the results of calls stand with these.
 fn is_own(figure: Figure) -> bool
@@ -49,7 +48,7 @@ fn put_own(
     found: &PlacedNode,
     drawn: DrawnPlace,
     out: &mut Vec<u8>,
-) -> Result<(), OutOfMemory>
+) -> Result<(), AllocError>
     ensures { OnOk result (out.new.items ≡ out.old.items
         ++ spec.own_box (program_tree program.now) accepted.now node found.now drawn) }
 {
@@ -80,7 +79,7 @@ fn put_boxes(
     found: &PlacedNode,
     places: &[DrawnPlace],
     out: &mut Vec<u8>,
-) -> Result<(), OutOfMemory>
+) -> Result<(), AllocError>
     ensures { OnOk result (out.new.items ≡ out.old.items
         ++ flat_map (spec.own_box (program_tree program.now) accepted.now node found.now) places.now) }
 {
@@ -103,7 +102,7 @@ fn put_graph(
     calls: &[DrawnCall],
     edges: &[Edge],
     out: &mut Vec<u8>,
-) -> Result<(), OutOfMemory>
+) -> Result<(), AllocError>
     requires { (i : ℕ) (call : Drawn) → slice_get calls.now i ≡ Some call → call.first + call.results < 2 ^ 32 }
     ensures { OnOk result (out.new.items ≡ out.old.items
         ++ spec.graph_text (program_tree program.now) accepted.now node found.now labels.now places.now calls.now edges.now) }
@@ -125,7 +124,7 @@ fn put_diagram(
     found: &PlacedNode,
     diagram: &Diagram,
     out: &mut Vec<u8>,
-) -> Result<(), OutOfMemory>
+) -> Result<(), AllocError>
     requires places { diagram.now.places.items ≡ drawn_places found.now }
     requires fit { (i : ℕ) (call : Drawn) → slice_get diagram.now.calls.items i ≡ Some call → call.first + call.results < 2 ^ 32 }
     ensures { OnOk result (out.new.items ≡ out.old.items
@@ -150,7 +149,7 @@ pub(crate) fn put_node(
     accepted: &Accepted,
     node: u32,
     out: &mut Vec<u8>,
-) -> Result<(), OutOfMemory>
+) -> Result<(), AllocError>
     requires accepted { (ops : List Operator) × (o : Choices) × (text : List ℕ) × IsAccepted ops o text accepted.now }
     requires node { node < length accepted.now.placed.nodes }
     ensures { (n : Node) → slice_get accepted.now.placed.nodes node ≡ Some n →

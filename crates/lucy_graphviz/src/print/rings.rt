@@ -7,7 +7,6 @@ use crate::print::label::{put, put_label, word_label};
 use crate::print::lines::put_line;
 use lucy_lines::OutputSpec;
 use lucy_net::{ActorKind, Net, RingSpec};
-use lucy_word::OutOfMemory;
 use std::alloc::{AllocError, Global};
 
 // The label of an output.
@@ -97,7 +96,7 @@ fn put_size(alloc: Global, size: u64, out: &mut Vec<u8>) -> Result<(), AllocErro
 }
 
 // The label of a ring: the word on which it is written, and its size where that is not 0.
-fn label_of(alloc: Global, ring: &RingSpec) -> Result<Vec<u8>, OutOfMemory>
+fn label_of(alloc: Global, ring: &RingSpec) -> Result<Vec<u8>, AllocError>
     ensures { IfOk result (λ v. v.items ≡ word_label ring.now.write ++ spec.ring_size ring.now.size) }
 {
     let mut label = Vec::new(alloc);
@@ -107,7 +106,7 @@ fn label_of(alloc: Global, ring: &RingSpec) -> Result<Vec<u8>, OutOfMemory>
 }
 
 // Puts a ring last.
-fn put_ring(alloc: Global, net: &Net, ring: &RingSpec, out: &mut Vec<u8>) -> Result<(), OutOfMemory>
+fn put_ring(alloc: Global, net: &Net, ring: &RingSpec, out: &mut Vec<u8>) -> Result<(), AllocError>
     ensures { OnOk result (out.new.items ≡ out.old.items ++ spec.ring_text net.now ring.now) }
 {
     let label = label_of(alloc, ring)?;
@@ -128,7 +127,7 @@ fn ring_at(rings: &[RingSpec], number: usize) -> &RingSpec
 }
 
 /// Puts the rings of a net last, in order.
-pub(crate) fn put_rings(alloc: Global, net: &Net, out: &mut Vec<u8>) -> Result<(), OutOfMemory>
+pub(crate) fn put_rings(alloc: Global, net: &Net, out: &mut Vec<u8>) -> Result<(), AllocError>
     ensures { OnOk result (out.new.items ≡ out.old.items ++ flat_map (spec.ring_text net.now) net.now.rings) }
 {
     let rings = net.rings.list();

@@ -13,7 +13,7 @@ use lucy_host::Op;
 use lucy_place::{CallSite, PlaceEntry, PlaceKind, PlacedNode};
 use lucy_token::sign_of;
 use lucy_tree::{Expr, Lit, Name};
-use lucy_word::{OutOfMemory, Word};
+use lucy_word::Word;
 use std::alloc::{AllocError, Global};
 
 /// The name of a place, where it has one.
@@ -389,7 +389,7 @@ pub fn put_kind(
     kind: &PlaceKind,
     form: Option<&Expr>,
     out: &mut Vec<u8>,
-) -> Result<(), OutOfMemory>
+) -> Result<(), AllocError>
     ensures { OnOk result (out.new.items ≡ out.old.items ++ spec.kind_text node.now kind.now (option_map (λ e. tree_of e.now) form.entry)) }
 {
     Ok(put_what(alloc, node, kind, form, out)?)
@@ -451,7 +451,7 @@ pub fn put_entry(
     entry: &PlaceEntry,
     form: Option<&Expr>,
     out: &mut Vec<u8>,
-) -> Result<(), OutOfMemory>
+) -> Result<(), AllocError>
     ensures { OnOk result (out.new.items ≡ out.old.items ++ spec.entry_text node.now place entry.now (option_map (λ e. tree_of e.now) form.entry)) }
 {
     put_number_of(alloc, node, place, out)?;

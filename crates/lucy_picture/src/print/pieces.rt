@@ -3,7 +3,7 @@ ghost use Rattle.std.specs.Prelude.{List, ℕ, ◌≡◌, ◌++◌, string_bytes
 ghost use Rattle.std.specs.Fmt.{decimal};
 ghost use Rattle.lucy_word.specs.Spelling.{text_of};
 
-use lucy_word::{OutOfMemory, Word};
+use lucy_word::Word;
 use std::alloc::{AllocError, Global};
 
 /// Puts these bytes last.
@@ -43,8 +43,5 @@ pub(crate) fn put_number(alloc: Global, number: u64, out: &mut Vec<u8>) -> Resul
 pub(crate) fn put_bits(alloc: Global, word: &Word, out: &mut Vec<u8>) -> Result<(), AllocError>
     ensures { OnOk result (out.new.items ≡ out.old.items ++ text_of word.now) }
 {
-    match word.print(alloc, out) {
-        Ok(()) => Ok(()),
-        Err(OutOfMemory) => Err(AllocError),
-    }
+    word.print(alloc, out)
 }

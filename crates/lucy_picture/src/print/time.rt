@@ -18,7 +18,7 @@ use crate::turn::Turn;
 use crate::words::words_at;
 use lucy_place::PlacedNode;
 use lucy_program::{Accepted, node_line};
-use lucy_word::{OutOfMemory, Word};
+use lucy_word::Word;
 use std::alloc::{AllocError, Global};
 
 // The name of a place, or nothing.
@@ -107,7 +107,7 @@ pub fn put_word(
     words: &[Word],
     place: u32,
     out: &mut Vec<u8>,
-) -> Result<(), OutOfMemory>
+) -> Result<(), AllocError>
     ensures { OnOk result (out.new.items ≡ out.old.items ++ spec.word_text words.now place) }
 {
     Ok(put_word_at(alloc, words, place, out)?)
@@ -314,7 +314,7 @@ fn put_chart(
     columns: &Columns,
     chart: &Chart,
     out: &mut Vec<u8>,
-) -> Result<(), OutOfMemory>
+) -> Result<(), AllocError>
     requires { node.now.params ≤ most_places }
     ensures { OnOk result (spec.PutsChart node.now words.now columns.now.turn columns.now.shown chart.now out.old.items out.new.items) }
 {
@@ -337,7 +337,7 @@ pub fn put_time(
     shown: u64,
     chart: &Chart,
     out: &mut Vec<u8>,
-) -> Result<(), OutOfMemory>
+) -> Result<(), AllocError>
     requires { node < length accepted.now.placed.nodes }
     ensures { (n : Node) → slice_get accepted.now.placed.nodes node ≡ Some n →
         OnOk result (spec.PutsChart n (words_in (slice_get accepted.now.clocks.items node)) turn shown chart.now out.old.items out.new.items) }

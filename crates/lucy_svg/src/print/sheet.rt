@@ -13,7 +13,7 @@ use crate::print::side::Side;
 use crate::told::Told;
 use lucy_picture::{Fill, Row, Turn};
 use lucy_place::PlacedNode;
-use lucy_word::{OutOfMemory, Word};
+use lucy_word::Word;
 use std::alloc::{AllocError, Global};
 
 // How high the ruler is, a stream, the head of a buffer, and what lies between what goes in and what comes out.
@@ -104,7 +104,7 @@ impl<'a> Sheet<'a> {
         turn: Option<Turn>,
         shown: u64,
         drawing: &'a Drawing,
-    ) -> Result<Sheet<'a>, OutOfMemory>
+    ) -> Result<Sheet<'a>, AllocError>
         ensures node { IfOk result (λ s. s.side.node.now ≡ node.now) }
         ensures told { IfOk result (λ s. AreTold node.now s.side.told) }
         ensures drawing { IfOk result (λ s. s.drawing.now ≡ drawing.now) }
@@ -138,7 +138,7 @@ impl<'a> Sheet<'a> {
         flow: &Flow,
         top: u64,
         out: &mut Vec<u8>,
-    ) -> Result<(), OutOfMemory>
+    ) -> Result<(), AllocError>
         ensures { OnOk result (Puts (IsLaneName self.now.side.node.now self.now.side.told) (buffer_names fill.now) out.old.items out.new.items) }
     {
         let side = &self.side;
@@ -155,7 +155,7 @@ impl<'a> Sheet<'a> {
     }
 
     // Puts the names of streams last; answers where they end.
-    fn put_row_names(&self, alloc: Global, out: &mut Vec<u8>) -> Result<u64, OutOfMemory>
+    fn put_row_names(&self, alloc: Global, out: &mut Vec<u8>) -> Result<u64, AllocError>
         ensures { OnOk result (Puts (IsLaneName self.now.side.node.now self.now.side.told) (map row_name self.now.drawing.now.chart.rows.items) out.old.items out.new.items) }
     {
         let mut top = RULER;
@@ -174,7 +174,7 @@ impl<'a> Sheet<'a> {
         alloc: Global,
         begin: u64,
         out: &mut Vec<u8>,
-    ) -> Result<(), OutOfMemory>
+    ) -> Result<(), AllocError>
         ensures { OnOk result (Puts (IsLaneName self.now.side.node.now self.now.side.told) (fill_names self.now.drawing.now.chart.fills.items self.now.drawing.now.flows.items) out.old.items out.new.items) }
     {
         let mut top = begin;
@@ -191,7 +191,7 @@ impl<'a> Sheet<'a> {
     }
 
     /// Puts the names last, as elements of an SVG whose left upper corner is theirs.
-    pub fn put_names(&self, alloc: Global, out: &mut Vec<u8>) -> Result<(), OutOfMemory>
+    pub fn put_names(&self, alloc: Global, out: &mut Vec<u8>) -> Result<(), AllocError>
         ensures { OnOk result (Puts (IsLaneName self.now.side.node.now self.now.side.told) (names_of self.now.drawing.now) out.old.items out.new.items) }
     {
         let begin = self.put_row_names(alloc, out)?;
@@ -345,7 +345,7 @@ impl<'a> Sheet<'a> {
     }
 
     /// Puts the lanes last, as elements of an SVG whose left upper corner is theirs.
-    pub fn put_lanes(&self, alloc: Global, out: &mut Vec<u8>) -> Result<(), OutOfMemory>
+    pub fn put_lanes(&self, alloc: Global, out: &mut Vec<u8>) -> Result<(), AllocError>
         ensures { OnOk result (Puts (IsLane self.now.lanes.cell) (lanes_of self.now.drawing.now) out.old.items out.new.items) }
     {
         let lanes = &self.lanes;

@@ -10,7 +10,7 @@ use crate::print::ink::{HEAD, NAME, SMALL, put, put_label, put_made, put_made_la
 use crate::told::Told;
 use lucy_picture::{Fill, Row, put_place, put_word};
 use lucy_place::PlacedNode;
-use lucy_word::{OutOfMemory, Word};
+use lucy_word::Word;
 use std::alloc::{AllocError, Global};
 
 // How far the names stand from the edge.
@@ -26,7 +26,7 @@ pub struct Side<'a> {
 }
 
 /// The text of the word of a place, by its number.
-pub fn word_text(alloc: Global, words: &[Word], place: u32) -> Result<Vec<u8>, OutOfMemory>
+pub fn word_text(alloc: Global, words: &[Word], place: u32) -> Result<Vec<u8>, AllocError>
     ensures { IfOk result (λ v. v.items ≡ word_text words.now place) }
 {
     let mut text = Vec::new(alloc);
@@ -60,7 +60,7 @@ fn link_end(linked: bool) -> &'static str {
 
 impl<'a> Side<'a> {
     // How wide the name and the word of a place are.
-    fn width_of(&self, alloc: Global, place: u32) -> Result<u64, OutOfMemory> {
+    fn width_of(&self, alloc: Global, place: u32) -> Result<u64, AllocError> {
         let name = self.told.text(alloc, self.node, place)?.len();
         let word = word_text(alloc, self.words, place)?.len();
         Ok(NAME.width(name.saturating_add(4)).max(SMALL.width(word)))
@@ -72,7 +72,7 @@ impl<'a> Side<'a> {
         alloc: Global,
         rows: &[Row],
         fills: &[Fill],
-    ) -> Result<u64, OutOfMemory> {
+    ) -> Result<u64, AllocError> {
         let mut most = NAME.width(22);
         for row in rows {
             most = self.width_of(alloc, row.place)?.max(most);
@@ -137,7 +137,7 @@ impl<'a> Side<'a> {
         place: u32,
         top: u64,
         out: &mut Vec<u8>,
-    ) -> Result<(), OutOfMemory>
+    ) -> Result<(), AllocError>
         ensures { OnOk result (Extends out.old.items out.new.items) }
     {
         let word = word_text(alloc, self.words, place)?;
@@ -153,7 +153,7 @@ impl<'a> Side<'a> {
         place: u32,
         top: u64,
         out: &mut Vec<u8>,
-    ) -> Result<(), OutOfMemory>
+    ) -> Result<(), AllocError>
         ensures { OnOk result (Puts (IsLaneName self.now.node.now self.now.told) (lane_name before.now place ∷ []) out.old.items out.new.items) }
     {
         let linked = self.put_link(alloc, place, out)?;

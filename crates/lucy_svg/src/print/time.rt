@@ -14,7 +14,7 @@ use crate::print::style::STYLE;
 use lucy_picture::{Turn, words_at};
 use lucy_place::PlacedNode;
 use lucy_program::{Accepted, node_line};
-use lucy_word::{OutOfMemory, Word};
+use lucy_word::Word;
 use std::alloc::{AllocError, Global};
 
 // How many instants are shown where none are given: the prefix and two periods, but not more than these.
@@ -95,7 +95,7 @@ fn put_frame(
 }
 
 // The first line of a node, without its line feed.
-fn head_of(alloc: Global, node: &PlacedNode) -> Result<Vec<u8>, OutOfMemory>
+fn head_of(alloc: Global, node: &PlacedNode) -> Result<Vec<u8>, AllocError>
     requires { node.now.params ≤ most_places }
 {
     let mut head = Vec::new(alloc);
@@ -118,7 +118,7 @@ fn put_above(
     sheet: &Sheet<'_>,
     turn: Option<Turn>,
     out: &mut Vec<u8>,
-) -> Result<(), OutOfMemory>
+) -> Result<(), AllocError>
     requires { node.now.params ≤ most_places }
     ensures { OnOk result (Extends out.old.items out.new.items) }
 {
@@ -165,7 +165,7 @@ fn put_svg(
     turn: Option<Turn>,
     shown: u64,
     out: &mut Vec<u8>,
-) -> Result<(), OutOfMemory>
+) -> Result<(), AllocError>
     requires { node.now.params ≤ most_places }
     ensures { OnOk result (PutsSvg sheet.now.side.node.now sheet.now.side.told sheet.now.drawing.now out.old.items out.new.items) }
 {
@@ -192,7 +192,7 @@ fn put_picture(
     shown: u64,
     drawing: &Drawing,
     out: &mut Vec<u8>,
-) -> Result<(), OutOfMemory>
+) -> Result<(), AllocError>
     requires { node.now.params ≤ most_places }
     ensures { OnOk result (PutsPicture node.now drawing.now out.old.items out.new.items) }
 {
@@ -212,7 +212,7 @@ pub fn put_time_svg(
     shown: u64,
     drawing: &Drawing,
     out: &mut Vec<u8>,
-) -> Result<(), OutOfMemory>
+) -> Result<(), AllocError>
     requires { node < length accepted.now.placed.nodes }
     ensures { (n : Node) → slice_get accepted.now.placed.nodes node ≡ Some n → OnOk result (PutsPicture n drawing.now out.old.items out.new.items) }
 {

@@ -1,14 +1,15 @@
 use Rattle.std.proofs.lemmas.Result.{IfOk-weaker}
-use Rattle.lucy_app.proofs.Pairs.{first_refused, second_refused, far_refused, passed_on}
+use Rattle.lucy_word.proofs.Results.{goes_out}
+use Rattle.lucy_app.proofs.Pairs.{first_refused, second_refused, far_refused}
 use Rattle.lucy_app.proofs.order.verdict_of.Goals as goal
 
 pub returns-in_err-first-clause-refused : goal.returns-in_err-first-clause-refused
 returns-in_err-first-clause-refused c =
-    passed_on _ c.from_residual.result c.in_err-first.field-0.0 c.from_residual.ensures.1 (first_refused c.args.first.now c.args.second.now _ c.in_err-first.ensures.refused)
+    goes_out _ c.in_err-first.field-0.0 c.from_residual.result c.from_residual.ensures.1 (first_refused c.args.first.now c.args.second.now _ c.in_err-first.ensures.refused)
 
 pub returns-in_err-second-clause-refused : goal.returns-in_err-second-clause-refused
 returns-in_err-second-clause-refused c =
-    passed_on _ c.from_residual-in_err-second.result c.in_err-second.field-0.0 c.from_residual-in_err-second.ensures.1
+    goes_out _ c.in_err-second.field-0.0 c.from_residual-in_err-second.result c.from_residual-in_err-second.ensures.1
     (second_refused c.args.first.now c.args.second.now _ _ c.in_ok-first.ensures.ok c.in_err-second.ensures.refused)
 
 pub returns-clause-ok : goal.returns-clause-ok

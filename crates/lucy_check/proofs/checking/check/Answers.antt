@@ -2,9 +2,11 @@ use Rattle.std.proofs.Common.{refl, inl, inr, sym, subst, length}
 use Rattle.std.specs.Prelude.{IfErr}
 use Rattle.std.specs.List.{AllByRecursion}
 use Rattle.std.proofs.lemmas.Option.{slice_get_read}
+use Rattle.lucy_word.proofs.Lists.{all_at}
+use Rattle.lucy_word.proofs.Results.{leaves}
 use Rattle.lucy_need.specs.Meeting.{assigned, MeetsAll, IsWithin}
 use Rattle.lucy_check.specs.Passing.{OrNoMemory, IsFirstRefusal, RefusesNeed, PassesAll, AllWithinLimits, IsBeyond}
-use Rattle.lucy_check.proofs.CheckLaws.{leaves, leaves_match, so_far_none, so_far_more, so_far_all, first_refusal, unmet, passes_all, all_within, all_at}
+use Rattle.lucy_check.proofs.CheckLaws.{leaves_match, so_far_none, so_far_more, so_far_all, first_refusal, unmet, passes_all, all_within}
 use Rattle.lucy_check.proofs.OneAnswer.{all_one, all_not, all_held, refusal_one}
 use Rattle.lucy_check.proofs.checking.check.Goals as goal
 

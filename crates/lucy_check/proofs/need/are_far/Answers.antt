@@ -2,7 +2,7 @@ use Rattle.std.proofs.Common.{ℕ, ◌<◌, nat_lt, subst, arith}
 use Rattle.std.specs.Prelude.{IsTrue}
 use Rattle.std.proofs.lemmas.Bool.Decides.{nat_tests}
 use Rattle.lucy_word.specs.Bits.{Bits}
-use Rattle.lucy_check.specs.Horizon.{IsHorizon}
+use Rattle.lucy_check.specs.Horizon.{AreDecidedBy}
 use Rattle.lucy_check.specs.Lent.{seen}
 use Rattle.lucy_check.proofs.CheckLaws.{horizon_one}
 use Rattle.lucy_check.proofs.need.are_far.Goals as goal
@@ -19,8 +19,8 @@ returns c =
     let b = seen c.args.b.now in
     let n = c.horizon_of.result in
     let most = c.number.ensures in
-    let looked : IsHorizon a b n =
-    subst (λ (u : Bits). IsHorizon u b n) c.word.ensures (subst (λ (v : Bits). IsHorizon c.word.result.now v n) c.word-2.ensures c.horizon_of.ensures.is) in (
+    let looked : AreDecidedBy a b n =
+    subst (λ (u : Bits). AreDecidedBy u b n) c.word.ensures (subst (λ (v : Bits). AreDecidedBy c.word.result.now v n) c.word-2.ensures c.horizon_of.ensures.is) in (
       λ h. (let more = above c.number.result n h in (n, looked, omega arith)),
       λ far. is_above c.number.result n (let same = horizon_one a b far.0 n far.1 looked in let more = far.2 in omega arith),
     )

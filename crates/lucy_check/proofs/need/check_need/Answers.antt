@@ -1,10 +1,11 @@
 use Rattle.std.proofs.Common.{◌<◌, length, inl, inr, sym, subst}
+use Rattle.lucy_word.proofs.Results.{leaves}
 use Rattle.lucy_need.specs.declared.need.Term.{Term}
 use Rattle.lucy_need.specs.Meeting.{Assignment, assigned, first_of, second_of}
 use Rattle.lucy_check.specs.Lent.{seen}
 use Rattle.lucy_check.specs.Passing.{AreWithinLimits, OrNoMemory, PassesTermLimit, RefusesNeed}
 use Rattle.lucy_check.specs.declared.fault.CheckFault.{CheckFault}
-use Rattle.lucy_check.proofs.CheckLaws.{leaves, both_within, of_terms, limit_refuses}
+use Rattle.lucy_check.proofs.CheckLaws.{both_within, of_terms, limit_refuses}
 use Rattle.lucy_check.proofs.need.check_need.Goals as goal
 
 pub words_within-requires-clause-first : goal.words_within-requires-clause-first

@@ -1,5 +1,7 @@
-use Rattle.std.proofs.Common.{inr, refl, subst}
-use Rattle.lucy_word.specs.Sampling.{IsOnTooLong}
+use Rattle.std.proofs.Common.{◌≡◌, Some, None, inr, refl, sym, ◌∙◌, subst}
+use Rattle.std.specs.Prelude.{IfSome}
+use Rattle.lucy_word.specs.Sampling.{IsOn, IsOnTooLong}
+use Rattle.lucy_word.specs.Stored.{IsStored}
 use Rattle.lucy_need.specs.Meeting.{assigned}
 use Rattle.lucy_check.proofs.CheckLaws.{picked, passing}
 use Rattle.lucy_check.proofs.LentLaws.{own_passing, word_passing}
@@ -17,11 +19,13 @@ returns-then-base-clause-ok c =
     (picked c.args.words.now c.args.term.now.clock c.index-words-term.result c.requires c.index-words-term.is)
     (c.if-base.ensures.is refl) c.is_always.ensures.stored
 
-pub returns-in-Ok-clause-ok : goal.returns-in-Ok-clause-ok
-returns-in-Ok-clause-ok c =
-    passing (assigned c.args.words.now) c.args.term.now c.index-words-term.result c.in-Ok.word
+pub returns-in-Some-clause-ok : goal.returns-in-Some-clause-ok
+returns-in-Some-clause-ok c =
+    passing (assigned c.args.words.now) c.args.term.now c.index-words-term.result c.in-Some.word
     (picked c.args.words.now c.args.term.now.clock c.index-words-term.result c.requires c.index-words-term.is)
-    c.in-Ok.ensures.ok c.in-Ok.ensures.stored (λ h. c.in-Ok.ensures.too_long.1 h)
+    (subst (λ made. IfSome made (IsOn c.index-words-term.result c.args.term.now.word)) c.in-Some.is c.in_ok-word.ensures.is)
+    (subst (λ made. IfSome made IsStored) c.in-Some.is c.in_ok-word.ensures.stored)
+    (λ h. (let e : Some c.in-Some.word ≡ None = sym c.in-Some.is ∙ c.in_ok-word.ensures.too_long.1 h in cc e))
 
-pub returns-in-Err-TooLong-clause-refused : goal.returns-in-Err-TooLong-clause-refused
-returns-in-Err-TooLong-clause-refused c = inr (refl, subst (λ a. IsOnTooLong a c.args.term.now.word) (picked c.args.words.now c.args.term.now.clock c.index-words-term.result c.requires c.index-words-term.is) (c.in-Err-TooLong.ensures.too_long.0 c.in-Err-TooLong.field-0-is))
+pub returns-in-None-clause-refused : goal.returns-in-None-clause-refused
+returns-in-None-clause-refused c = inr (refl, subst (λ a. IsOnTooLong a c.args.term.now.word) (picked c.args.words.now c.args.term.now.clock c.index-words-term.result c.requires c.index-words-term.is) (c.in_ok-word.ensures.too_long.0 c.in-None.is))

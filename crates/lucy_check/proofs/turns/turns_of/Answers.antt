@@ -1,7 +1,8 @@
 use Rattle.std.proofs.Common.{◌*◌, ◌<◌, ◌≤◌, ◌≡◌, ℕ, ◌+◌, ◌-◌, ◌/◌, ◌%◌, ap, ◌∙◌, sym, arith}
 use Rattle.std.proofs.Math.Nat.{div-add-mod, mod-lt, div-mul_cancel, le_of_mul-le-mul_right, mul-le-mul_left, pos_of_dvd_of_pos}
 use Rattle.lucy_word.specs.Multiple.{IsLcm}
-use Rattle.lucy_check.proofs.Remainders.{divides, gcd_by_lcm}
+use Rattle.lucy_word.proofs.Multiples.{divides}
+use Rattle.lucy_check.proofs.Remainders.{gcd_by_lcm}
 use Rattle.lucy_check.proofs.turns.turns_of.Goals as goal
 
 -- so many whole periods are no shorter than a step

@@ -1,7 +1,7 @@
 use Rattle.std.proofs.Common.{◌≡◌, ◌+◌, ◌-◌, ◌≤◌, ℕ, max, subst, arith}
 use Rattle.lucy_word.specs.Bits.{Bits, ones_to}
 use Rattle.lucy_word.proofs.BitsLaws.{ones_to-none, ones_to-le}
-use Rattle.lucy_check.specs.Horizon.{IsHorizon}
+use Rattle.lucy_check.specs.Horizon.{AreDecidedBy}
 use Rattle.lucy_check.proofs.Periods.{Walked, walked_none, walked_more, Precedes-from_walked, IsSize-from_walked}
 use Rattle.lucy_check.proofs.Walks.{ahead_none, ahead_more, counted}
 use Rattle.lucy_check.proofs.walked.lead_by_walk.Goals as goal
@@ -43,9 +43,9 @@ loop-i-preserved c =
       at_size c.args.a.now c.args.b.now c.loop-i.i c.loop-i.most (c.loop-i.lead + c.from.result - c.from-taken.result) _ c.loop-i.invariant.3 (omega arith) (omega arith) c.max-most.ensures,
     )
 
-horizon : (c : goal.After-loop-i) → IsHorizon c.args.a.now c.args.b.now c.loop-i.i
+horizon : (c : goal.After-loop-i) → AreDecidedBy c.args.a.now c.args.b.now c.loop-i.i
 horizon c =
-    let P : ℕ → Type 0 = λ n. IsHorizon c.args.a.now c.args.b.now n in
+    let P : ℕ → Type 0 = λ n. AreDecidedBy c.args.a.now c.args.b.now n in
     subst P (let e : c.horizon_of-i-end.result ≡ c.loop-i.i = omega arith in e) c.horizon_of-i-end.ensures.is
 
 pub returns-clause-size : goal.returns-clause-size

@@ -9,4 +9,4 @@ use Rattle.lucy_clock.proofs.handing.merged.Goals as goal
 pub returns-clause-refused : goal.returns-clause-refused
 returns-clause-refused c =
     subst (λ t. IfErr c.sampled-2.result (λ e. (e ≡ err.OutOfMemory) ⊎ ((e ≡ err.Limit lim.Word) × IsOnTooLong c.args.own.now (sampling_word (not t) c.args.word.now)))) (sym c.if-first.false)
-    (subst (λ v. IfErr c.sampled-2.result (λ e. (e ≡ err.OutOfMemory) ⊎ ((e ≡ err.Limit lim.Word) × IsOnTooLong c.args.own.now v))) c.in_ok-word.ensures.ok c.sampled-2.ensures.refused)
+    (subst (λ v. IfErr c.sampled-2.result (λ e. (e ≡ err.OutOfMemory) ⊎ ((e ≡ err.Limit lim.Word) × IsOnTooLong c.args.own.now v))) c.in_ok-word.ensures.is c.sampled-2.ensures.refused)

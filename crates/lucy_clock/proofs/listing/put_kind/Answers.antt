@@ -4,6 +4,7 @@ use Rattle.std.specs.Prelude.{Result, IfErr}
 use Rattle.lucy_place.specs.declared.entry.PlaceKind.{PlaceKind}
 use Rattle.lucy_place.specs.declared.placed.PlacedNode.{PlacedNode}
 use Rattle.lucy_word.specs.Complement.{turned}
+use Rattle.lucy_word.proofs.Results.{leaves}
 use Rattle.lucy_need.specs.declared.need.Need.{Need}
 use Rattle.lucy_need.specs.declared.need.Need.TheVariants.{Equal}
 use Rattle.lucy_need.specs.Meeting.{alone, term}
@@ -11,7 +12,7 @@ use Rattle.lucy_clock.specs.declared.signature.Signature.{Signature}
 use Rattle.lucy_clock.specs.declared.error.ClockError.{ClockError}
 use Rattle.lucy_clock.specs.Listing.{kind_needs, operand_needs}
 use Rattle.lucy_clock.specs.Drafts.{IsPast, IsListedKind}
-use Rattle.lucy_clock.proofs.DraftLaws.{leaves, merged_ok, merged_refused, past_more}
+use Rattle.lucy_clock.proofs.DraftLaws.{merged_ok, merged_refused, past_more}
 use Rattle.lucy_clock.proofs.listing.put_kind.Goals as goal
 
 -- what a call has put is what the kind of place asks for

@@ -1,12 +1,12 @@
 use Rattle.std.proofs.Common.{length, ap, ◌∙◌, arith}
-use Rattle.lucy_clock.proofs.ReaderLaws.{one_bounds}
+use Rattle.lucy_place.proofs.NodeLaws.{at_one_within}
 use Rattle.lucy_clock.proofs.LastLaws.{last_reader, lasts_next}
 use Rattle.lucy_clock.proofs.reading.mark_lasts.Goals as goal
 
 pub each-init : goal.each-init
 each-init c = (
   c.requires.size,
-  λ p k q l un asked reads. absurd (let most = (one_bounds c.args.node.now.places q un.0 un.1).1 in omega (arith, l, most)),
+  λ p k q l un asked reads. absurd (let most = (at_one_within c.args.node.now.places q un.0 un.1).1 in omega (arith, l, most)),
 )
 
 pub mark_last-requires-clause-place : goal.mark_last-requires-clause-place
@@ -32,5 +32,5 @@ pub returns-clause-lasts : goal.returns-clause-lasts
 returns-clause-lasts c = λ p k q un asked reads.
     let len = ap length c.list-places.ensures in
     let end = c.each-test.false in
-    let low = (one_bounds c.args.node.now.places q un.0 un.1).0 in
+    let low = (at_one_within c.args.node.now.places q un.0 un.1).0 in
     c.each.invariant.1 p k q (omega arith) un asked reads

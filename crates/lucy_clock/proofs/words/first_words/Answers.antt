@@ -1,10 +1,10 @@
 use Rattle.std.proofs.Common.{◌≡◌, ◌+◌, ◌++◌, ◌∷◌, [], refl, length, ap, subst, inl, inr, arith}
 use Rattle.std.specs.Prelude.{◌⊎◌}
 use Rattle.lucy_word.specs.declared.limit.Limit.TheVariants as lim
+use Rattle.lucy_word.proofs.Results.{leaves}
 use Rattle.lucy_need.specs.Meeting.{assigned, word_bits}
 use Rattle.lucy_clock.specs.declared.error.ClockError.TheVariants as err
 use Rattle.lucy_clock.specs.Reading.{IsNextWord, IsTooLongBefore, NextHandsTooLong}
-use Rattle.lucy_clock.proofs.DraftLaws.{leaves}
 use Rattle.lucy_clock.proofs.BaseLaws.{bits_push}
 use Rattle.lucy_clock.proofs.WordLaws.{so_far_push, before_long, last_long}
 use Rattle.lucy_clock.proofs.words.first_words.Goals as goal

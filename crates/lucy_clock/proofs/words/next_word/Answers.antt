@@ -8,11 +8,10 @@ handed_word-requires-clause-unnamed c =
     let here = one_read c.list.result.now c.args.node.now.places c.args.place c.index-list-place.result c.list.ensures c.requires.place.0 c.requires.place.1 c.index-list-place.is in
     unnamed_of c.args.node.now c.requires.handing.written c.args.place c.index-list-place.result here c.in-None.is
 
-pub returns-in-Some-clause-ok : goal.returns-in-Some-clause-ok
-returns-in-Some-clause-ok c =
+pub returns-in_ok-copy-in-Some-clause-ok : goal.returns-in_ok-copy-in-Some-clause-ok
+returns-in_ok-copy-in-Some-clause-ok c =
     let here = one_read c.list.result.now c.args.node.now.places c.args.place c.index-list-place.result c.list.ensures c.requires.place.0 c.requires.place.1 c.index-list-place.is in
-    from_both c.copied.result _ _ _ c.copied.ensures.ok c.copied.ensures.stored
-    (λ w f stored. next_named c.args.node.now c.requires.handing.labels c.args.place c.index-list-place.result c.in-Some.word w (assigned c.args.words.now) here c.in-Some.is f stored)
+    next_named c.args.node.now c.requires.handing.labels c.args.place c.index-list-place.result c.in-Some.word c.in_ok-copy-in-Some.field-0 (assigned c.args.words.now) here c.in-Some.is c.in_ok-copy-in-Some.ensures.equal c.in_ok-copy-in-Some.ensures.stored
 
 pub returns-in-None-clause-ok : goal.returns-in-None-clause-ok
 returns-in-None-clause-ok c =

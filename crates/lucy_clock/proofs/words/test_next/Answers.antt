@@ -1,10 +1,10 @@
 use Rattle.std.proofs.Common.{◌≡◌, ◌+◌, inl, inr, subst}
 use Rattle.std.specs.Prelude.{◌⊎◌}
 use Rattle.lucy_word.specs.declared.limit.Limit.TheVariants as lim
+use Rattle.lucy_word.proofs.Results.{leaves}
 use Rattle.lucy_need.specs.Meeting.{assigned}
 use Rattle.lucy_clock.specs.declared.error.ClockError.TheVariants as err
 use Rattle.lucy_clock.specs.Reading.{IsNextWord, IsTooLongBefore, NextHandsTooLong}
-use Rattle.lucy_clock.proofs.DraftLaws.{leaves}
 use Rattle.lucy_clock.proofs.KeptLaws.{kept_more, kept_last_long, kept_before_long}
 use Rattle.lucy_clock.proofs.words.test_next.Goals as goal
 

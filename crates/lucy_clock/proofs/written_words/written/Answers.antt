@@ -81,7 +81,7 @@ returns-clause-ok c = λ n e.
     let places = ap length c.list.ensures in
     let more = c.if-len-list.false in
     let far = all_first found words c.in_ok-words.ensures.ok (omega arith) in
-    let put = c.in_ok-put_bases.ensures.ok ∙ ap (λ l. words ++ base_words l) c.list-sites.ensures in
+    let put = c.in_ok-put_bases.ensures ∙ ap (λ l. words ++ base_words l) c.list-sites.ensures in
     subst (λ m. AreWordsOf m c.put_bases.new.words.items) same (words_are found is_written words c.put_bases.new.words.items far stored put)
 
 pub returns-clause-fits : goal.returns-clause-fits
@@ -94,7 +94,7 @@ returns-clause-fits c = λ n e.
     let places = ap length c.list.ensures in
     let more = c.if-len-list.false in
     let far = all_first found words c.in_ok-words.ensures.ok (omega arith) in
-    let put = ap word_bits c.in_ok-put_bases.ensures.ok in
+    let put = ap word_bits c.in_ok-put_bases.ensures in
     let all = sum_by-append bit_count words (base_words c.list-sites.result.now) in
     let count = ap word_bits c.deref-2.ensures.value in
     let most = c.if-bits-behind.false in

@@ -1,8 +1,7 @@
-use Rattle.std.proofs.Common.{refl}
-use Rattle.lucy_net.specs.Plans.{net_system}
+use Rattle.lucy_net.proofs.NetLaws.{planned}
 use Rattle.lucy_core.specs.Seen.{machine_on}
 use Rattle.lucy_core.proofs.laws.events_go_by_the_net.Goals as goal
 
 pub returns : goal.returns
-unfolding machine_on net_system
-returns c = λ seen. refl
+unfolding machine_on
+returns c = λ seen. planned seen.net seen.instants

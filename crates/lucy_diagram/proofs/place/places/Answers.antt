@@ -1,5 +1,5 @@
 use Rattle.std.proofs.Common.{◌≡◌, ◌+◌, ◌++◌, ◌∷◌, [], drop, ap, sym, ◌∙◌, append_assoc}
-use Rattle.lucy_place.proofs.ListLaws.{drop_next}
+use Rattle.lucy_word.proofs.Lists.{drop_next}
 use Rattle.lucy_diagram.specs.Diagrams.{drawn_from}
 use Rattle.lucy_diagram.proofs.place.places.Goals as goal
 

@@ -1,7 +1,7 @@
 use Rattle.std.proofs.Common.{◌≡◌, ◌+◌, ◌≤◌, Some, length, refl, sym, subst, ◌∙◌}
 use Rattle.std.specs.Prelude.{slice_get}
 use Rattle.std.proofs.lemmas.Option.{slice_get_read}
-use Rattle.lucy_shape.proofs.Lists.{given_back}
+use Rattle.std.proofs.lemmas.List.{take_at}
 use Rattle.lucy_explain.specs.Joining.{AreStreamsOf}
 use Rattle.lucy_explain.proofs.StreamLaws.{streams_none, streams_all}
 use Rattle.lucy_explain.proofs.streams.clock_streams.Goals as goal
@@ -16,7 +16,7 @@ each-preserved c =
     let i = c.each.need-index in
     let at : slice_get list i ≡ Some c.need-item.result = slice_get_read list (length list) i c.need-item.result refl c.each-test.true c.need-item.is in
     let before = subst (AreStreamsOf needs.list needs.clocks i) (sym c.deref_mut.ensures.value) c.each.invariant in
-    subst (AreStreamsOf needs.list needs.clocks (i + 1)) (sym (given_back c.each.streams.len c.join_need.new.streams _ (c.join_need.auto.streams ∙ c.deref_mut.ensures.len)))
+    subst (AreStreamsOf needs.list needs.clocks (i + 1)) (sym (take_at c.join_need.new.streams _ c.each.streams.len (c.join_need.auto.streams ∙ c.deref_mut.ensures.len)))
     (c.join_need.ensures needs.list needs.clocks i before (subst (λ l. slice_get l i ≡ Some c.need-item.result) c.list-need-items.ensures at))
 
 pub returns : goal.returns

@@ -1,5 +1,5 @@
 use Rattle.std.proofs.Common.{◌++◌, ◌∷◌, ◌+◌, [], ap, sym, ◌∙◌}
-use Rattle.lucy_flat.proofs.AssemblyLaws.{range_more}
+use Rattle.lucy_word.proofs.Lists.{range_more}
 use Rattle.lucy_flat.proofs.assemble.numbers.Goals as goal
 
 pub each-preserved : goal.each-preserved

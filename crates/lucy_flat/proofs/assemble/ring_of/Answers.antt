@@ -2,10 +2,11 @@ use Rattle.std.proofs.Common.{◌≡◌, ap, sym, refl, ◌∙◌, length, inl, 
 use Rattle.std.specs.Prelude.{◌⊎◌}
 use Rattle.std.proofs.lemmas.Option.{slice_get_read}
 use Rattle.lucy_word.specs.declared.limit.Limit.TheVariants as lim
+use Rattle.lucy_word.proofs.Results.{leaves}
 use Rattle.lucy_flat.specs.declared.error.FlatError.TheVariants as err
 use Rattle.lucy_flat.specs.declared.draft.Draft.{Draft}
 use Rattle.lucy_flat.specs.Assembly.{IsReadTooLong, ReadsTooLong}
-use Rattle.lucy_flat.proofs.AssemblyLaws.{leaves, ring_is}
+use Rattle.lucy_flat.proofs.AssemblyLaws.{ring_is}
 use Rattle.lucy_flat.proofs.assemble.ring_of.Goals as goal
 
 pub read_word-requires-clause-short : goal.read_word-requires-clause-short
@@ -34,4 +35,4 @@ returns-clause-ok c =
     let got = slice_get_read taker.reads.items (length taker.reads.items) c.args.operand source refl (c.requires.operand taker there) c.index-from.ensures in
     let gives = slice_get_read drafts (length drafts) source giver refl (c.requires.ready.reads c.args.to c.args.operand source taker there got) c.index-drafts-from.is in
     λ draft from e f. ring_is drafts c.args.to c.args.operand taker giver draft source from c.in_ok-write.write c.in_ok-read.read there got gives
-    (c.in_ok-write.ensures.ok ∙ ap (λ (d : Draft). d.word) (sym c.index-drafts-from.is)) c.in_ok-read.ensures.ok c.in_ok-read.ensures.shortest c.in_ok-read.ensures.fits e f
+    (c.in_ok-write.ensures.equal ∙ ap (λ (d : Draft). d.word) (sym c.index-drafts-from.is)) c.in_ok-read.ensures.ok c.in_ok-read.ensures.shortest c.in_ok-read.ensures.fits e f

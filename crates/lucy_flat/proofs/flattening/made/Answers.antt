@@ -4,8 +4,8 @@ use Rattle.lucy_word.specs.declared.limit.Limit.TheVariants as lim
 use Rattle.lucy_flat.specs.Refusals.{RefusesFlat}
 use Rattle.lucy_flat.specs.Drafts.{RefusesDrafts}
 use Rattle.std.specs.Prelude.{◌⊎◌}
+use Rattle.lucy_word.proofs.Results.{leaves}
 use Rattle.lucy_flat.specs.Assembly.{IsReadTooLong, IsNetPast}
-use Rattle.lucy_flat.proofs.AssemblyLaws.{leaves}
 use Rattle.lucy_flat.proofs.FlatLaws.{ready}
 use Rattle.lucy_flat.proofs.NetLaws.{flat_net, actors_few, rings_few}
 use Rattle.lucy_flat.proofs.TopLaws.{refuses_drafts, refuses_net}

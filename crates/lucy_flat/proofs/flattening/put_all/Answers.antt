@@ -6,7 +6,6 @@ use Rattle.lucy_flat.specs.declared.error.FlatError.{FlatError}
 use Rattle.lucy_flat.specs.declared.error.FlatError.TheVariants as err
 use Rattle.lucy_flat.specs.Drafts.{IsInstanceKept}
 use Rattle.lucy_flat.specs.Refusals.{NetWordIsTooLong}
-use Rattle.lucy_flat.proofs.AssemblyLaws.{leaves}
 use Rattle.lucy_flat.proofs.DraftLaws.{main_at, main_fits}
 use Rattle.lucy_flat.proofs.flattening.put_all.Goals as goal
 

@@ -1,6 +1,6 @@
 use Rattle.std.proofs.Common.{◌≡◌, ◌-◌, ◌++◌, ◌∷◌, [], ap, sym, refl, ◌∙◌, subst, length, get_or, arith}
 use Rattle.std.specs.Prelude.{slice_get}
-use Rattle.std.proofs.lemmas.Option.{slice_get_within}
+use Rattle.std.proofs.lemmas.Option.{slice_get_within, slice_get-get_or}
 use Rattle.lucy_word.specs.Bits.{IsWord}
 use Rattle.lucy_word.specs.Shortest.{IsShortest}
 use Rattle.lucy_kahn.specs.Spots.{at}
@@ -9,7 +9,6 @@ use Rattle.lucy_net.specs.declared.kind.ActorKind.TheVariants.{Output}
 use Rattle.lucy_flat.specs.Instances.{IsSpotWord}
 use Rattle.lucy_flat.specs.declared.draft.Draft.{Draft}
 use Rattle.lucy_flat.proofs.AssemblyLaws.{present}
-use Rattle.lucy_flat.proofs.ExtentLaws.{got}
 use Rattle.lucy_flat.proofs.OutputLaws.{main_results, result_is, result_within, result_word, outputs_more, drafts_first, drafts_all}
 use Rattle.lucy_flat.proofs.flattening.put_outputs.Goals as goal
 
@@ -26,7 +25,7 @@ bounds-words-place c =
     let clocked = c.requires.program.clocked in
     let clock_count = clocked.count in
     let node_within = slice_get_within nodes c.args.main c.node.result.now c.node.ensures.is in
-    let at_clock = got clocks c.args.main c.index-program-main.result (omega arith) in
+    let at_clock = slice_get-get_or clocks c.args.main c.index-program-main.result (omega arith) in
     let clock = get_or clocks c.args.main c.index-program-main.result in
     let results = c.list-results.result.now in
     let words = c.list-words.result.now in
@@ -43,7 +42,7 @@ overflow_sub-place c =
     let clocked = c.requires.program.clocked in
     let clock_count = clocked.count in
     let node_within = slice_get_within nodes c.args.main c.node.result.now c.node.ensures.is in
-    let at_clock = got clocks c.args.main c.index-program-main.result (omega arith) in
+    let at_clock = slice_get-get_or clocks c.args.main c.index-program-main.result (omega arith) in
     let clock = get_or clocks c.args.main c.index-program-main.result in
     let results = c.list-results.result.now in
     let words = c.list-words.result.now in
@@ -60,7 +59,7 @@ each-preserved c =
     let clocked = c.requires.program.clocked in
     let clock_count = clocked.count in
     let node_within = slice_get_within nodes c.args.main c.node.result.now c.node.ensures.is in
-    let at_clock = got clocks c.args.main c.index-program-main.result (omega arith) in
+    let at_clock = slice_get-get_or clocks c.args.main c.index-program-main.result (omega arith) in
     let clock = get_or clocks c.args.main c.index-program-main.result in
     let results = c.list-results.result.now in
     let words = c.list-words.result.now in
@@ -72,7 +71,7 @@ each-preserved c =
     let w = c.index-words-place.result in
     let spot = result_word nodes clocks proper clocked c.args.main c.node.result.now clock results words c.requires.main c.node.ensures.is at_clock c.list-results.ensures c.list-words.ensures i place w there c.index-words-place.is in
     let before = c.each.invariant in
-    let word = c.in_ok-word.ensures.ok in
+    let word = c.in_ok-word.ensures.equal in
     let next : Draft = record { kind = Output i; word = c.in_ok-word.word; reads = c.push.new.self; size = 0; gives = c.new.result } in
     record {
       drafts = before.drafts ++ next ∷ [];
@@ -90,7 +89,7 @@ returns-clause-ok c =
     let clocked = c.requires.program.clocked in
     let clock_count = clocked.count in
     let node_within = slice_get_within nodes c.args.main c.node.result.now c.node.ensures.is in
-    let at_clock = got clocks c.args.main c.index-program-main.result (omega arith) in
+    let at_clock = slice_get-get_or clocks c.args.main c.index-program-main.result (omega arith) in
     let clock = get_or clocks c.args.main c.index-program-main.result in
     let results = c.list-results.result.now in
     let words = c.list-words.result.now in

@@ -1,10 +1,12 @@
 use Rattle.std.proofs.Common.{suc, ◌≡◌, ◌+◌, ◌<◌, Some, ◌∷◌, ap, sym, ◌∙◌, refl, subst, length, get_or, inl, inr, arith}
 use Rattle.std.specs.Prelude.{◌⊎◌, slice_get}
 use Rattle.std.proofs.lemmas.Result.{on_ok_weaker}
-use Rattle.std.proofs.lemmas.Option.{slice_get_within}
+use Rattle.std.proofs.lemmas.Option.{slice_get_within, slice_get-get_or}
 use Rattle.lucy_word.specs.Sampling.{IsOn, IsOnTooLong}
 use Rattle.lucy_word.specs.declared.limit.Limit.TheVariants as lim
+use Rattle.lucy_word.proofs.Results.{leaves}
 use Rattle.lucy_place.specs.declared.placed.PlacedNode.{PlacedNode}
+use Rattle.lucy_place.proofs.NodeLaws.{site_stands}
 use Rattle.lucy_flat.specs.declared.error.FlatError.{FlatError}
 use Rattle.lucy_flat.specs.declared.error.FlatError.TheVariants as err
 use Rattle.lucy_kahn.specs.Below.{Below}
@@ -14,12 +16,11 @@ use Rattle.lucy_kahn.specs.Numbers.{call_offset}
 use Rattle.lucy_kahn.proofs.Tables.{calls_below, total_law}
 use Rattle.lucy_flat.specs.declared.instance.Caller.{Caller}
 use Rattle.lucy_flat.specs.Refusals.{NetWordIsTooLong}
-use Rattle.lucy_flat.proofs.AssemblyLaws.{leaves}
-use Rattle.lucy_flat.proofs.ExtentLaws.{got, call_above}
+use Rattle.lucy_flat.proofs.ExtentLaws.{call_above}
 use Rattle.lucy_flat.proofs.InstanceLaws.{places_within, call_within, fit_here}
 use Rattle.lucy_kahn.proofs.SizeLaws.{below_more}
 use Rattle.lucy_flat.proofs.AlikeLaws.{next_alike}
-use Rattle.lucy_flat.proofs.PutLaws.{actors_exact, so_far_first, so_far_more, so_far_whole, at_call, instance_is, call_bound, call_word, site_at}
+use Rattle.lucy_flat.proofs.PutLaws.{actors_exact, so_far_first, so_far_more, so_far_whole, at_call, instance_is, call_bound, call_word}
 use Rattle.lucy_flat.proofs.instance.+put_instance.Goals as goal
 
 pub put_instance-overflow_add-begin : goal.put_instance-overflow_add-begin
@@ -60,7 +61,7 @@ put_instance-put_inside-requires t c =
     let clock_count = c.requires.program.clocked.count in
     let places = ap length c.list-places.ensures in
     let is = instance_is c.args.program.placed.now.nodes c.args.program.clocks.now c.args.program.sizes.now c.requires.program c.requires.at.0 c.args.node c.args.begin (c.args.begin + length c.list-places.result.now) _ c.list-sites.result.now
-    c.node-found.ensures.is (got c.args.program.clocks.now c.args.node c.index-program-node.result (omega arith)) c.requires.at.1 refl c.requires.few c.list-sites.ensures (omega arith)
+    c.node-found.ensures.is (slice_get-get_or c.args.program.clocks.now c.args.node c.index-program-node.result (omega arith)) c.requires.at.1 refl c.requires.few c.list-sites.ensures (omega arith)
     (subst (AreSumsOf c.args.program.sizes.now c.list-sites.result.now (c.args.begin + length c.list-places.result.now) (length c.list-sites.result.now)) (sym c.deref.ensures.value) c.in_ok-inner.ensures.ok) in
     (omega arith, (c.requires.program, ((c.requires.at.0, is.0, is.1), c.requires.base)))
 
@@ -70,7 +71,7 @@ put_instance-returns-clause-ok t c = λ path old is keeps.
     let clock_count = c.requires.program.clocked.count in
     let places = ap length c.list-places.ensures in
     let inside = instance_is c.args.program.placed.now.nodes c.args.program.clocks.now c.args.program.sizes.now c.requires.program path c.args.node c.args.begin (c.args.begin + length c.list-places.result.now) _ c.list-sites.result.now
-    c.node-found.ensures.is (got c.args.program.clocks.now c.args.node c.index-program-node.result (omega arith)) is refl c.requires.few c.list-sites.ensures (omega arith)
+    c.node-found.ensures.is (slice_get-get_or c.args.program.clocks.now c.args.node c.index-program-node.result (omega arith)) is refl c.requires.few c.list-sites.ensures (omega arith)
     (subst (AreSumsOf c.args.program.sizes.now c.list-sites.result.now (c.args.begin + length c.list-places.result.now) (length c.list-sites.result.now)) (sym c.deref.ensures.value) c.in_ok-inner.ensures.ok) in
     c.put_inside.ensures.ok path old inside.0 inside.1 keeps
 
@@ -220,7 +221,7 @@ put_call-put_instance-put-requires t c =
     let count = ap length c.list-sites.ensures in
     let site = c.index-sites-call.result in
     let there : i < length sites = let inside = c.requires.call in omega arith in
-    let at_site = site_at n sites i site c.list-sites.ensures there c.index-sites-call.is in
+    let at_site = site_stands n sites i site c.list-sites.ensures there c.index-sites-call.is in
     let caller : Caller = record { begin = c.args.of.begin; args = c.list.result } in
     let next : i + 1 ≡ suc i = omega arith in
     let offset = ap (call_offset nodes (Some n)) next in
@@ -254,7 +255,7 @@ put_call-returns-clause-ok t c = λ path old is e so.
     let count = ap length c.list-sites.ensures in
     let site = c.index-sites-call.result in
     let there : i < length sites = let inside = c.requires.call in omega arith in
-    let at_site = site_at n sites i site c.list-sites.ensures there c.index-sites-call.is in
+    let at_site = site_stands n sites i site c.list-sites.ensures there c.index-sites-call.is in
     let caller : Caller = record { begin = c.args.of.begin; args = c.list.result } in
     let next : i + 1 ≡ suc i = omega arith in
     let offset = ap (call_offset nodes (Some n)) next in

@@ -2,10 +2,10 @@ use Rattle.std.proofs.Common.{◌≡◌, ap, sym, refl, subst, length, inl, inr,
 use Rattle.std.specs.Prelude.{◌⊎◌}
 use Rattle.lucy_word.specs.Sampling.{IsOn}
 use Rattle.lucy_word.specs.declared.limit.Limit.TheVariants as lim
+use Rattle.lucy_word.proofs.Results.{leaves}
 use Rattle.lucy_flat.specs.declared.error.FlatError.TheVariants as err
 use Rattle.lucy_flat.specs.Drafts.{HasTooLong}
 use Rattle.lucy_flat.specs.Refusals.{NetWordIsTooLong}
-use Rattle.lucy_flat.proofs.AssemblyLaws.{leaves}
 use Rattle.lucy_flat.proofs.InstanceLaws.{kind_here, word_here, entry_here, made_here, has_size, fit_here}
 use Rattle.lucy_flat.proofs.UnmadePlaces.{place_long}
 use Rattle.lucy_flat.proofs.instance.draft_of.Goals as goal

@@ -1,11 +1,11 @@
 use Rattle.std.proofs.Common.{◌≡◌, ◌+◌, ◌-◌, [], ◌∷◌, map, ap, sym, refl, ◌∙◌, subst, length, get_or, arith}
 use Rattle.std.specs.Prelude.{slice_get}
 use Rattle.std.proofs.lemmas.Option.{same_Some, slice_get_within, slice_get_read}
+use Rattle.std.proofs.lemmas.Result.{IfOk-weaker}
 use Rattle.lucy_place.specs.declared.placed.PlacedNode.{PlacedNode}
 use Rattle.lucy_place.specs.declared.entry.CallSite.{CallSite}
 use Rattle.lucy_place.specs.declared.entry.PlaceKind.TheVariants as place_kind
 use Rattle.lucy_place.specs.Proper.{Stands, ArePlaces}
-use Rattle.lucy_flat.proofs.AssemblyLaws.{ok_map}
 use Rattle.lucy_kahn.specs.Spots.{at, spot_reads}
 use Rattle.lucy_kahn.specs.Numbers.{number}
 use Rattle.lucy_flat.proofs.InstanceLaws.{callee_same, kind_here, place_fits, places_fit, own_reads, result_here, result_reads, argument_here}
@@ -131,7 +131,7 @@ returns-in-Op-clause-ok c = λ path is.
     let nodes = c.args.program.placed.now.nodes in
     let clocks = c.args.program.clocks.now in
     let proper = c.requires.program.proper in
-    ok_map _ _ c.all.result
+    IfOk-weaker c.all.result _ _
     (λ v e. e ∙ ap (map (λ p. c.args.of.begin + (p - 1))) c.list.ensures ∙ sym (own_reads nodes clocks proper path c.args.of is c.in-Op.args) ∙ ap (λ k. map (number nodes) (spot_reads nodes (at path c.args.place) k)) (sym c.in-Op.is))
     c.all.ensures.ok
 
@@ -144,7 +144,7 @@ returns-in-Result-clause-ok c = λ path is.
     let callee = callee_same nodes clocks proper path c.args.of is c.in-Result.call c.in-Result.number h c.list-in-Result.result.now c.index-list-call.result c.node-callee.result.now c.list-in-Result.ensures c.index-list-call.is c.node-callee.ensures.is in
     let same : get_or h.of_call.is_call.callee.results c.in-Result.number 0 ≡ get_or c.list-in-Result-2.result.now c.in-Result.number 0 =
     ap (λ (t : PlacedNode). get_or t.results c.in-Result.number 0) callee ∙ ap (λ t. get_or t c.in-Result.number 0) (sym c.list-in-Result-2.ensures) in
-    ok_map _ _ c.one-in-Result.result
+    IfOk-weaker c.one-in-Result.result _ _
     (λ v e. e ∙ ap (λ r. (get_or c.args.of.inner.now (c.in-Result.call - 1) 0 + (r - 1)) ∷ []) (sym same) ∙ sym (result_reads nodes clocks proper path c.args.of is c.args.place c.in-Result.call c.in-Result.number h)
     ∙ ap (λ k. map (number nodes) (spot_reads nodes (at path c.args.place) k)) (sym c.in-Result.is))
     c.one-in-Result.ensures.ok

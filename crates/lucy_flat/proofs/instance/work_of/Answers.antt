@@ -6,6 +6,6 @@ returns-clause-ok c = λ path is.
     let nodes = c.args.program.placed.now.nodes in
     let clocks = c.args.program.clocks.now in
     let proper = c.requires.program.proper in
-    let form = c.in_ok-kind.ensures.ok path (λ t. main_alone nodes clocks proper path c.args.of is (none_tells c.args.of.caller c.is_none.result c.is_none.ensures t))
+    let form = c.in_ok-kind.ensures path (λ t. main_alone nodes clocks proper path c.args.of is (none_tells c.args.of.caller c.is_none.result c.is_none.ensures t))
     (λ p. tells_none c.args.of.caller c.is_none.result c.is_none.ensures (alone_main nodes clocks proper path c.args.of is p)) in
     (form, c.in_ok-reads.ensures.ok path is)

@@ -2,24 +2,24 @@ use Rattle.std.proofs.Common.{◌≡◌, length, take, ap, sym, ◌∙◌, subst
 use Rattle.lucy_word.specs.Always.{always}
 use Rattle.lucy_word.specs.Shortest.{Same}
 use Rattle.std.proofs.lemmas.Option.{same_Some}
+use Rattle.lucy_host.proofs.Elements.{get_there}
 use Rattle.lucy_place.specs.declared.placed.PlacedNode.{PlacedNode}
 use Rattle.lucy_need.specs.Meeting.{assigned, MeetsAll}
 use Rattle.lucy_check.specs.Passing.{OrNoMemory, PassesAll, AllWithinLimits, IsFirstRefusal}
 use Rattle.lucy_program.specs.Clocked.{AreNodeWords}
 use Rattle.lucy_front.specs.Sizes.{buffer_sizes}
 use Rattle.lucy_front.specs.Clocking.{HasNoClocks}
-use Rattle.lucy_kahn.proofs.JoinedLists.{there}
 use Rattle.lucy_front.proofs.ClockedLaws.{few_of, words_of, clocked, check_refused, needs_are, needs_refused, words_refused, unshut, refused_so}
 use Rattle.lucy_front.proofs.clocking.handed_clock.Goals as goal
 
 pub check-requires-clause-words : goal.check-requires-clause-words
 check-requires-clause-words c =
-    let n = there c.args.placed.now.nodes c.args.node c.requires.node in
+    let n = get_there c.args.placed.now.nodes c.args.node c.requires.node in
     ap length c.deref.ensures.value ∙ (c.in_ok-words.ensures.ok n.0 n.1).count ∙ sym (c.in_ok-needs.ensures.ok n.0 n.1).0
 
 pub check-requires-clause-base : goal.check-requires-clause-base
 check-requires-clause-base c =
-    let n = there c.args.placed.now.nodes c.args.node c.requires.node in
+    let n = get_there c.args.placed.now.nodes c.args.node c.requires.node in
     subst (λ ws. Same (assigned ws 0) always) (sym c.deref.ensures.value) (c.in_ok-words.ensures.ok n.0 n.1).handed.places.base
 
 pub returns-in_ok-clock_of-in-Ok-clause-ok : goal.returns-in_ok-clock_of-in-Ok-clause-ok

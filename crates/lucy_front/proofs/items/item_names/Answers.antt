@@ -1,6 +1,6 @@
 use Rattle.std.proofs.Common.{◌≡◌, ◌+◌, ◌-◌, [], length, get_or, ap, sym, ◌∙◌, subst, arith}
 use Rattle.std.specs.Prelude.{slice_get}
-use Rattle.lucy_flat.proofs.ExtentLaws.{got}
+use Rattle.std.proofs.lemmas.Option.{slice_get-get_or}
 use Rattle.lucy_kahn.specs.Spots.{main_of}
 use Rattle.lucy_kahn.specs.Numbers.{begin_from}
 use Rattle.lucy_net.specs.declared.error.Item.{Item}
@@ -14,7 +14,7 @@ each-preserved c =
     let items = c.args.items.now in
     let none : Item = record { actor = 0; number = 0 } in
     let item : Item = get_or items c.each.i none in
-    let at = got items c.each.i none c.each-test.true in
+    let at = slice_get-get_or items c.each.i none c.each-test.true in
     let last : length nodes - 1 ≡ c.args.main = omega (arith, c.requires.main) in
     let named = c.in_ok-put_name.ensures [] (ap (slice_get nodes) last) c.new-name.ensures.items in
     let number : begin_from nodes (main_of nodes) [] + c.from-actor.result ≡ item.actor = omega (arith, c.from-actor.ensures) in

@@ -3,10 +3,10 @@ use Rattle.std.proofs.lemmas.List.{drop_all, drop_more}
 use Rattle.lucy_token.specs.declared.mark.Mark.TheVariants as mark
 use Rattle.lucy_tree.specs.Tree.{Tree, buffered}
 use Rattle.lucy_tree.specs.View.{tree_of, all_trees, expr_list}
+use Rattle.lucy_tree.proofs.Trees.{tree_host, tree_call, tree_sampled, tree_merged, tree_followed}
 use Rattle.lucy_grammar.specs.PrintTokens.{spaced_text, name_token, word_token, commas, printed, all_printed}
 use Rattle.lucy_grammar.specs.Spans.{nowhere}
 use Rattle.lucy_grammar.proofs.PrintedText.{listed, text_parens, text_commas, tight_all, text_one, text_two, text_three, text_hosted, text_called, text_sampled, text_merged, text_followed, text_buffered, text_bounded}
-use Rattle.lucy_grammar.proofs.BoxedForms.{tree_host, tree_call, tree_sampled, tree_merged, tree_followed}
 use Rattle.lucy_grammar.proofs.Operands.{only_one, only_two, first_three}
 use Rattle.lucy_grammar.proofs.Sheets.{behind, adds_as, ended, nothing, led, between, fronted}
 use Rattle.lucy_grammar.proofs.expr.+printed.Goals as goal

@@ -1,9 +1,10 @@
 use Rattle.std.specs.Prelude.{◌≡◌, ◌⊎◌}
+use Rattle.lucy_word.proofs.Results.{goes_out}
 use Rattle.lucy_inference.specs.declared.refusal.Uninferred.TheVariants as refusal
 use Rattle.lucy_inference.specs.Stages.{IsInferenceIn}
 use Rattle.lucy_inference.specs.Refusals.{OrNoMemory, RefusesIn, AreAlike}
 use Rattle.lucy_inference.specs.Stages.{of_rates}
-use Rattle.lucy_inference.proofs.Steps.{leaves, leaves_match, ok_as, err_as, match_as, no_shape, in_shape, inference_within, inference_base, accepted_as, refused_as, walk_as}
+use Rattle.lucy_inference.proofs.Steps.{leaves_match, ok_as, err_as, match_as, no_shape, in_shape, inference_within, inference_base, accepted_as, refused_as, walk_as}
 use Rattle.lucy_inference.proofs.OneAnswer.{inference_one, inference_kept}
 use Rattle.lucy_inference.proofs.inferring.infer.Goals as goal
 
@@ -21,7 +22,7 @@ returns-in_err-shape-clause-only c = λ e is.
 
 pub returns-in_err-shape-clause-unequal : goal.returns-in_err-shape-clause-unequal
 returns-in_err-shape-clause-unequal c =
-    leaves _ (of_rates c.in_err-shape.field-0.0) c.from_residual.result c.from_residual.ensures.1
+    goes_out _ (of_rates c.in_err-shape.field-0.0) c.from_residual.result c.from_residual.ensures.1
     (walk_as c.args.needs.now c.in_err-shape.field-0.0 c.in_err-shape.ensures.unequal)
 
 pub returns-clause-inferred : goal.returns-clause-inferred

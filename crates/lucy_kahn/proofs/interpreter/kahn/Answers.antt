@@ -2,13 +2,14 @@ use Rattle.std.proofs.Common.{◌≡◌, ◌-◌, inl, Some, length, map, ap, sy
 use Rattle.std.specs.Prelude.{slice_get}
 use Rattle.std.specs.Result.{IfOk}
 use Rattle.std.proofs.lemmas.Option.{slice_get_read}
+use Rattle.lucy_word.proofs.Results.{goes_out}
 use Rattle.lucy_host.specs.Host.{lent}
 use Rattle.lucy_host.specs.Operators.{kinds_of}
 use Rattle.lucy_kahn.specs.Spots.{results_of}
 use Rattle.lucy_kahn.specs.Kahn.{kahn}
 use Rattle.lucy_kahn.specs.Turns.{AreThere, IsTurn, own_at}
 use Rattle.lucy_kahn.proofs.TurnLaws.{count_of_iterate, count_of_lists, places_there}
-use Rattle.lucy_kahn.proofs.RunLaws.{err_exit, err_known, none_passed, turn_of, run_first, run_more, passed_of, main_lists, main_results}
+use Rattle.lucy_kahn.proofs.RunLaws.{err_known, none_passed, turn_of, run_first, run_more, passed_of, main_lists, main_results}
 use Rattle.lucy_kahn.proofs.interpreter.kahn.Goals as goal
 
 pub turns-init : goal.turns-init
@@ -43,7 +44,7 @@ returns-clause-passed g c = λ long.
 
 pub returns-in_err-lists-2-clause-limit : goal.returns-in_err-lists-2-clause-limit
 returns-in_err-lists-2-clause-limit g c =
-    err_exit c.from_residual-in_err-lists-2.result _ _ c.from_residual-in_err-lists-2.ensures.1
+    goes_out _ _ c.from_residual-in_err-lists-2.result c.from_residual-in_err-lists-2.ensures.1
     (passed_of (kinds_of (lent c.args.host.now)) c.args.inputs.now c.args.placed.now.nodes c.in_ok-instances.instances.list.items c.in_ok-instances.instances.inner.items c.turns.number c.args.turns _ (omega arith) c.in_err-lists-2.ensures.limit)
 
 pub turns-preserved : goal.turns-preserved

@@ -1,7 +1,7 @@
 use Rattle.std.proofs.Common.{◌≡◌, ◌+◌, ◌-◌, ◌<◌, ◌≤◌, Some, length, get_or, ap, sym, refl, ◌∙◌, subst, arith}
 use Rattle.std.specs.Prelude.{slice_get, slice_index_or}
 use Rattle.std.proofs.lemmas.Option.{slice_get_read, get_or_from_slice_get}
-use Rattle.lucy_kahn.proofs.JoinedLists.{there}
+use Rattle.lucy_host.proofs.Elements.{get_there}
 use Rattle.lucy_kahn.specs.Turns.{lists_in}
 use Rattle.lucy_kahn.proofs.TurnLaws.{list_is}
 use Rattle.lucy_kahn.proofs.ReadLaws.{results_at, read_at, place_within, other_there}
@@ -12,7 +12,7 @@ overflow_sub-called c =
     let it = c.args.iterate.now in
     let list = it.instances.now.list.items in
     let inner = it.instances.now.inner.items in
-    let x = there list c.args.instance c.requires.there in
+    let x = get_there list c.args.instance c.requires.there in
     let is : x.0 ≡ get_or list c.args.instance x.0 = sym (get_or_from_slice_get list c.args.instance x.0 x.0 x.1) in
     let first : slice_get inner c.args.instance ≡ Some c.index.result.now = slice_get_read inner (length inner) c.args.instance c.index.result.now refl (omega (arith, c.requires.there, c.requires.before.2.all)) c.index.ensures in
     let h = results_at it c.requires.before.0 c.requires.before.1 c.requires.before.2 c.args.instance c.args.place x.0 c.requires.there is c.args.call c.args.number c.index.result.now first c.requires.stands in
@@ -23,7 +23,7 @@ overflow_add-called c =
     let it = c.args.iterate.now in
     let list = it.instances.now.list.items in
     let inner = it.instances.now.inner.items in
-    let x = there list c.args.instance c.requires.there in
+    let x = get_there list c.args.instance c.requires.there in
     let is : x.0 ≡ get_or list c.args.instance x.0 = sym (get_or_from_slice_get list c.args.instance x.0 x.0 x.1) in
     let first : slice_get inner c.args.instance ≡ Some c.index.result.now = slice_get_read inner (length inner) c.args.instance c.index.result.now refl (omega (arith, c.requires.there, c.requires.before.2.all)) c.index.ensures in
     let h = results_at it c.requires.before.0 c.requires.before.1 c.requires.before.2 c.args.instance c.args.place x.0 c.requires.there is c.args.call c.args.number c.index.result.now first c.requires.stands in
@@ -36,7 +36,7 @@ node_of-callee-requires-clause-there c =
     let it = c.args.iterate.now in
     let list = it.instances.now.list.items in
     let inner = it.instances.now.inner.items in
-    let x = there list c.args.instance c.requires.there in
+    let x = get_there list c.args.instance c.requires.there in
     let is : x.0 ≡ get_or list c.args.instance x.0 = sym (get_or_from_slice_get list c.args.instance x.0 x.0 x.1) in
     let first : slice_get inner c.args.instance ≡ Some c.index.result.now = slice_get_read inner (length inner) c.args.instance c.index.result.now refl (omega (arith, c.requires.there, c.requires.before.2.all)) c.index.ensures in
     let h = results_at it c.requires.before.0 c.requires.before.1 c.requires.before.2 c.args.instance c.args.place x.0 c.requires.there is c.args.call c.args.number c.index.result.now first c.requires.stands in
@@ -47,7 +47,7 @@ bounds-list-number c =
     let it = c.args.iterate.now in
     let list = it.instances.now.list.items in
     let inner = it.instances.now.inner.items in
-    let x = there list c.args.instance c.requires.there in
+    let x = get_there list c.args.instance c.requires.there in
     let is : x.0 ≡ get_or list c.args.instance x.0 = sym (get_or_from_slice_get list c.args.instance x.0 x.0 x.1) in
     let first : slice_get inner c.args.instance ≡ Some c.index.result.now = slice_get_read inner (length inner) c.args.instance c.index.result.now refl (omega (arith, c.requires.there, c.requires.before.2.all)) c.index.ensures in
     let h = results_at it c.requires.before.0 c.requires.before.1 c.requires.before.2 c.args.instance c.args.place x.0 c.requires.there is c.args.call c.args.number c.index.result.now first c.requires.stands in
@@ -58,7 +58,7 @@ lists_at-requires c =
     let it = c.args.iterate.now in
     let list = it.instances.now.list.items in
     let inner = it.instances.now.inner.items in
-    let x = there list c.args.instance c.requires.there in
+    let x = get_there list c.args.instance c.requires.there in
     let is : x.0 ≡ get_or list c.args.instance x.0 = sym (get_or_from_slice_get list c.args.instance x.0 x.0 x.1) in
     let first : slice_get inner c.args.instance ≡ Some c.index.result.now = slice_get_read inner (length inner) c.args.instance c.index.result.now refl (omega (arith, c.requires.there, c.requires.before.2.all)) c.index.ensures in
     let h = results_at it c.requires.before.0 c.requires.before.1 c.requires.before.2 c.args.instance c.args.place x.0 c.requires.there is c.args.call c.args.number c.index.result.now first c.requires.stands in
@@ -69,7 +69,7 @@ at-requires-clause-low c =
     let it = c.args.iterate.now in
     let list = it.instances.now.list.items in
     let inner = it.instances.now.inner.items in
-    let x = there list c.args.instance c.requires.there in
+    let x = get_there list c.args.instance c.requires.there in
     let is : x.0 ≡ get_or list c.args.instance x.0 = sym (get_or_from_slice_get list c.args.instance x.0 x.0 x.1) in
     let first : slice_get inner c.args.instance ≡ Some c.index.result.now = slice_get_read inner (length inner) c.args.instance c.index.result.now refl (omega (arith, c.requires.there, c.requires.before.2.all)) c.index.ensures in
     let h = results_at it c.requires.before.0 c.requires.before.1 c.requires.before.2 c.args.instance c.args.place x.0 c.requires.there is c.args.call c.args.number c.index.result.now first c.requires.stands in
@@ -80,7 +80,7 @@ at-requires-clause-high c =
     let it = c.args.iterate.now in
     let list = it.instances.now.list.items in
     let inner = it.instances.now.inner.items in
-    let x = there list c.args.instance c.requires.there in
+    let x = get_there list c.args.instance c.requires.there in
     let is : x.0 ≡ get_or list c.args.instance x.0 = sym (get_or_from_slice_get list c.args.instance x.0 x.0 x.1) in
     let first : slice_get inner c.args.instance ≡ Some c.index.result.now = slice_get_read inner (length inner) c.args.instance c.index.result.now refl (omega (arith, c.requires.there, c.requires.before.2.all)) c.index.ensures in
     let h = results_at it c.requires.before.0 c.requires.before.1 c.requires.before.2 c.args.instance c.args.place x.0 c.requires.there is c.args.call c.args.number c.index.result.now first c.requires.stands in
@@ -93,7 +93,7 @@ returns c kinds paths b =
     let it = c.args.iterate.now in
     let list = it.instances.now.list.items in
     let inner = it.instances.now.inner.items in
-    let x = there list c.args.instance c.requires.there in
+    let x = get_there list c.args.instance c.requires.there in
     let is : x.0 ≡ get_or list c.args.instance x.0 = sym (get_or_from_slice_get list c.args.instance x.0 x.0 x.1) in
     let first : slice_get inner c.args.instance ≡ Some c.index.result.now = slice_get_read inner (length inner) c.args.instance c.index.result.now refl (omega (arith, c.requires.there, b.all)) c.index.ensures in
     let h = results_at it kinds paths b c.args.instance c.args.place x.0 c.requires.there is c.args.call c.args.number c.index.result.now first c.requires.stands in

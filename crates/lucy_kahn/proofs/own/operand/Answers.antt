@@ -2,8 +2,9 @@ use Rattle.std.proofs.Common.{◌<◌, ◌≤◌, [], length, map, refl, ap, sym
 use Rattle.std.proofs.lemmas.Bool.{ltb-true}
 use Rattle.std.proofs.lemmas.List.{length-map, get_or-map, get_or_past}
 use Rattle.std.proofs.lemmas.Option.{slice_get_read}
+use Rattle.lucy_word.proofs.Lists.{all_at}
 use Rattle.lucy_kahn.specs.Turns.{own_at}
-use Rattle.lucy_kahn.proofs.OwnLaws.{all_at, at_is}
+use Rattle.lucy_kahn.proofs.OwnLaws.{at_is}
 use Rattle.lucy_kahn.proofs.own.operand.Goals as goal
 
 pub at-requires-clause-low : goal.at-requires-clause-low

@@ -2,8 +2,8 @@ use Rattle.std.proofs.Common.{length, sym, ◌∙◌, subst, arith}
 use Rattle.std.specs.Result.{IfOk, IfErr}
 use Rattle.lucy_host.specs.Host.{lent}
 use Rattle.lucy_host.specs.Operators.{kinds_of}
+use Rattle.lucy_host.proofs.Elements.{get_there}
 use Rattle.lucy_kahn.specs.Spots.{at}
-use Rattle.lucy_kahn.proofs.JoinedLists.{there}
 use Rattle.lucy_kahn.specs.Outcomes.{IsWholeList, Overflows}
 use Rattle.lucy_kahn.proofs.TurnLaws.{kahn_next, stands_at, lists_from, count_of_iterate, count_of_lists, short_at, node_of, own_law, operands_there, applied_of, proper_kind}
 use Rattle.lucy_kahn.proofs.turn.list_of.Goals as goal
@@ -27,8 +27,8 @@ own_list-requires-clause-there g c = λ κs h.
     let kinds = kinds_of (lent c.args.host.now) in
     let paths = c.requires.before.0 in
     let b = c.requires.before.1 in
-    let x = there list c.args.instance c.requires.there in
-    let nd = there nodes x.0.node (b.instances.each c.args.instance x.0 x.1).within in
+    let x = get_there list c.args.instance c.requires.there in
+    let nd = get_there nodes x.0.node (b.instances.each c.args.instance x.0 x.1).within in
     let s = c.requires.stands x.0 nd.0 x.1 nd.1 in
     let node = node_of kinds it.inputs.now nodes list inner it.number it.lists.now paths b c.args.instance x.0 nd.0 x.1 nd.1 in
     let lists = lists_from kinds it.inputs.now nodes list inner it.number it.lists.now paths b c.args.instance c.lists_at-own.result.now c.requires.there c.lists_at-own.ensures in
@@ -45,8 +45,8 @@ own_list-requires-clause-applied g c = λ κs h.
     let kinds = kinds_of (lent c.args.host.now) in
     let paths = c.requires.before.0 in
     let b = c.requires.before.1 in
-    let x = there list c.args.instance c.requires.there in
-    let nd = there nodes x.0.node (b.instances.each c.args.instance x.0 x.1).within in
+    let x = get_there list c.args.instance c.requires.there in
+    let nd = get_there nodes x.0.node (b.instances.each c.args.instance x.0 x.1).within in
     let s = c.requires.stands x.0 nd.0 x.1 nd.1 in
     applied_of (length (lent c.args.host.now)) x.0.node nodes nd.0 c.args.place c.args.kind.now c.requires.known nd.1 s
     (proper_kind kinds it.inputs.now nodes list inner it.number it.lists.now paths b x.0.node nd.0 c.args.place c.args.kind.now nd.1 s)
@@ -58,8 +58,8 @@ returns-in_default-clause-ok g c paths b =
     let list = it.instances.now.list.items in
     let inner = it.instances.now.inner.items in
     let kinds = kinds_of (lent c.args.host.now) in
-    let x = there list c.args.instance c.requires.there in
-    let nd = there nodes x.0.node (b.instances.each c.args.instance x.0 x.1).within in
+    let x = get_there list c.args.instance c.requires.there in
+    let nd = get_there nodes x.0.node (b.instances.each c.args.instance x.0 x.1).within in
     let s = c.requires.stands x.0 nd.0 x.1 nd.1 in
     let node = node_of kinds it.inputs.now nodes list inner it.number it.lists.now paths b c.args.instance x.0 nd.0 x.1 nd.1 in
     let lists = lists_from kinds it.inputs.now nodes list inner it.number it.lists.now paths b c.args.instance c.lists_at-own.result.now c.requires.there c.lists_at-own.ensures in
@@ -75,8 +75,8 @@ returns-in_default-clause-limit g c paths b =
     let list = it.instances.now.list.items in
     let inner = it.instances.now.inner.items in
     let kinds = kinds_of (lent c.args.host.now) in
-    let x = there list c.args.instance c.requires.there in
-    let nd = there nodes x.0.node (b.instances.each c.args.instance x.0 x.1).within in
+    let x = get_there list c.args.instance c.requires.there in
+    let nd = get_there nodes x.0.node (b.instances.each c.args.instance x.0 x.1).within in
     let s = c.requires.stands x.0 nd.0 x.1 nd.1 in
     let node = node_of kinds it.inputs.now nodes list inner it.number it.lists.now paths b c.args.instance x.0 nd.0 x.1 nd.1 in
     let lists = lists_from kinds it.inputs.now nodes list inner it.number it.lists.now paths b c.args.instance c.lists_at-own.result.now c.requires.there c.lists_at-own.ensures in

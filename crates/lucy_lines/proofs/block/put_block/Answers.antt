@@ -1,9 +1,10 @@
 use Rattle.std.proofs.Common.{ℕ, ◌≡◌, ◌+◌, List, ap, sym, subst, ◌∙◌, arith}
+use Rattle.lucy_word.proofs.Results.{on_err}
 use Rattle.lucy_lines.specs.Outputs.{more_lines}
 use Rattle.lucy_text.specs.Outside.{Writes, Fails}
 use Rattle.lucy_lines.specs.Walks.{AreAt, AreWalked, FitRoom}
 use Rattle.lucy_lines.proofs.OutputLaws.{no_more_lines}
-use Rattle.lucy_lines.proofs.SinkLaws.{on_err, nothing_gathered, gathered_untouched, gathered_empty, waiting_fails, gathered_written}
+use Rattle.lucy_lines.proofs.SinkLaws.{nothing_gathered, gathered_untouched, gathered_empty, waiting_fails, gathered_written}
 use Rattle.lucy_lines.proofs.WalkLaws.{lists_begin, fit_begun, all_left_later, fit_later, walked_at}
 use Rattle.lucy_lines.proofs.RunLaws.{enough_lists, instant_gathered, run_fails, empty_before, nothing_waits}
 use Rattle.lucy_lines.proofs.block.put_block.Goals as goal

@@ -13,4 +13,4 @@ add_list-requires c =
     omega arith
 
 pub loop-preserved : goal.loop-preserved
-loop-preserved c = c.in-Ok.ensures.ok ∙ ap (λ u. u ++ [] ∷ []) c.loop.invariant ∙ sym (one_more_list c.loop.counter c.loop.counter refl)
+loop-preserved c = c.in_ok-add_list.ensures.ok ∙ ap (λ u. u ++ [] ∷ []) c.loop.invariant ∙ sym (one_more_list c.loop.counter c.loop.counter refl)

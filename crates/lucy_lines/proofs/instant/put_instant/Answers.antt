@@ -1,6 +1,7 @@
 use Rattle.std.proofs.Common.{ℕ, ◌∙◌, refl, sym, subst, arith, get_or}
+use Rattle.lucy_word.proofs.Results.{on_err}
 use Rattle.lucy_lines.specs.Walks.{WalkState, FitsRoom}
-use Rattle.lucy_lines.proofs.SinkLaws.{on_err, nothing_gathered, gathered_untouched, gathered_empty}
+use Rattle.lucy_lines.proofs.SinkLaws.{nothing_gathered, gathered_untouched, gathered_empty}
 use Rattle.lucy_lines.proofs.WalkLaws.{no_lines, none_stepped, one_more_stepped, all_stepped, walked_now, one_more_gathered, instant_fails, first_empty}
 use Rattle.lucy_lines.proofs.instant.put_instant.Goals as goal
 

@@ -1,9 +1,9 @@
 use Rattle.std.proofs.Common.{◌≡◌, ◌+◌, ◌++◌, ◌∷◌, [], List, ℕ, Option, drop, ap, sym, ◌∙◌, subst, append_assoc, append-nil}
 use Rattle.std.specs.Result.{OnOk}
+use Rattle.lucy_word.proofs.Lists.{drop_next}
 use Rattle.lucy_tree.specs.declared.expr.Expr.{Expr}
 use Rattle.lucy_naming.specs.Phrases.{expr_phrase, expr_phrases}
 use Rattle.lucy_naming.specs.Numbering.{bounds, all_bounds}
-use Rattle.lucy_place.proofs.ListLaws.{drop_next}
 use Rattle.lucy_naming.proofs.PhraseLaws.{phrase_sampled, phrase_merged, phrase_followed, phrase_buffered}
 use Rattle.lucy_naming.proofs.bounds.+bounds.Goals as goal
 

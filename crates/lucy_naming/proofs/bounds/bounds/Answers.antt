@@ -1,10 +1,10 @@
 use Rattle.std.proofs.Common.{◌+◌, ◌++◌, List, ℕ, Option, map, drop, ap, sym, ◌∙◌, append_assoc}
+use Rattle.lucy_word.proofs.Lists.{drop_next}
 use Rattle.lucy_tree.specs.declared.program.Def.{Def}
 use Rattle.lucy_tree.specs.View.{def_tree}
 use Rattle.lucy_naming.specs.Phrases.{expr_phrase}
 use Rattle.lucy_naming.specs.Numbering.{bounds}
 use Rattle.lucy_naming.specs.Nodes.{def_bounds}
-use Rattle.lucy_place.proofs.ListLaws.{drop_next}
 use Rattle.lucy_naming.proofs.bounds.bounds.Goals as goal
 
 pub each-preserved : goal.each-preserved

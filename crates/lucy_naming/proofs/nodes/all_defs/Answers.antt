@@ -1,12 +1,12 @@
 use Rattle.std.proofs.Common.{◌≡◌, ◌+◌, ◌∷◌, ◌++◌, List, length, map, drop, ap, sym, ◌∙◌, subst, arith}
 use Rattle.std.proofs.lemmas.List.{append-nil, drop_all}
+use Rattle.lucy_word.proofs.Lists.{drop_next}
 use Rattle.lucy_tree.specs.View.{DefTree, def_tree}
 use Rattle.lucy_naming.specs.Streams.{def_names}
 use Rattle.lucy_naming.specs.Places.{Known}
 use Rattle.lucy_naming.specs.Nodes.{past_def, past_defs, defined, rights, def_sites}
 use Rattle.lucy_naming.specs.Drafts.{next_of, IsSmall}
 use Rattle.lucy_naming.specs.Views.{known_of}
-use Rattle.lucy_place.proofs.ListLaws.{drop_next}
 use Rattle.lucy_naming.proofs.NodeLaws.{DefsDrawn, defs_start, defs_step}
 use Rattle.lucy_naming.proofs.RoomLaws.{small_before_defs, later_names, left_names}
 use Rattle.lucy_naming.proofs.ShapeLaws.{def_shaped_at}

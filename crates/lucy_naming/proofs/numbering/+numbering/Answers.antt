@@ -1,21 +1,21 @@
 use Rattle.std.proofs.Common.{◌≡◌, ◌+◌, ◌≤◌, ◌∷◌, [], ℕ, drop, append-nil, refl, ap, sym, ◌∙◌, subst, arith}
 use denote.Param.Weighed.{most, at_most}
 use Rattle.std.proofs.lemmas.Result.{on_ok_weaker, IfOk-weaker}
+use Rattle.lucy_word.proofs.Lists.{drop_next}
 use Rattle.lucy_place.specs.declared.entry.PlaceKind.TheVariants as kinds
 use Rattle.lucy_tree.specs.declared.expr.Expr.{Expr}
 use Rattle.lucy_tree.specs.View.{tree_of}
 use Rattle.lucy_tree.proofs.expr.Expr.TheLaws.{the_size}
+use Rattle.lucy_tree.proofs.Trees.{tree_literal, tree_variable, tree_call}
 use Rattle.lucy_naming.specs.Phrases as phrases
 use Rattle.lucy_naming.specs.Phrases.{Phrase, Phrases, headed, none, and, phrase_of, expr_phrase, expr_phrases}
 use Rattle.lucy_naming.specs.Numbering.{Next, number, past, past_all}
 use Rattle.lucy_naming.specs.Places.{Known}
 use Rattle.lucy_naming.specs.Drafts.{next_of, IsSmall, site_of}
 use Rattle.lucy_naming.specs.Views.{known_of}
-use Rattle.lucy_place.proofs.ListLaws.{drop_next}
 use Rattle.lucy_naming.proofs.ShapeLaws.{shaped_at}
 use Rattle.lucy_naming.proofs.PhraseLaws.{plain_else}
 use Rattle.lucy_naming.proofs.DraftLaws.{AllDrawn, small_before, small_inside, drawn_start, drawn_step, drawn_all, next_called, called, plain_results, plain_past, plain_number, plain_small, plain_drawn}
-use Rattle.lucy_naming.proofs.TreeLaws.{tree_literal, tree_variable, tree_called}
 use Rattle.lucy_naming.proofs.OperandLaws.{is_operated, is_hosted, is_merged, is_called, operated_smaller, hosted_smaller, called_smaller, one_smaller, zero_smaller, falls_inside, falls_on, falls_among, form_plain, form_shaped, form_small, form_drawn, form_kind, is_over, one_small, one_answered, one_kind, name_drawn, name_number, call_drawn, call_number, place_small, results_small, calls_small, buffers_small, stands, drawn_end, no_answer}
 use Rattle.lucy_naming.proofs.numbering.+numbering.Goals as goal
 
@@ -199,7 +199,7 @@ pub operand_places-returns-in-Var : goal.operand_places-returns-in-Var
 operand_places-returns-in-Var t c = absurd (form_plain c.args.expr.now (ap tree_of c.in-Var.is ∙ tree_variable c.in-Var.name) c.requires.plain)
 
 pub operand_places-returns-in-Call : goal.operand_places-returns-in-Call
-operand_places-returns-in-Call t c = absurd (form_plain c.args.expr.now (ap tree_of c.in-Call.is ∙ tree_called c.in-Call.node c.in-Call.at c.in-Call.args) c.requires.plain)
+operand_places-returns-in-Call t c = absurd (form_plain c.args.expr.now (ap tree_of c.in-Call.is ∙ tree_call c.in-Call.node c.in-Call.at c.in-Call.args) c.requires.plain)
 
 -- where memory runs out
 pub all_places-returns-in_err-number-clause-numbers : goal.all_places-returns-in_err-number-clause-numbers

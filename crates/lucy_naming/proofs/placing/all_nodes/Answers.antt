@@ -1,13 +1,13 @@
 use Rattle.std.proofs.Common.{◌≡◌, ◌+◌, ◌∷◌, ◌++◌, [], map, take, drop, refl, ap, ◌∙◌, subst, inl, arith}
 use Rattle.std.proofs.lemmas.List.{drop_all, map-append}
+use Rattle.lucy_word.proofs.Lists.{drop_next, take_next}
+use Rattle.lucy_word.proofs.Results.{leaves}
 use Rattle.lucy_tree.specs.View.{NodeTree, ProgramTree, node_tree}
 use Rattle.lucy_naming.specs.declared.error.NameError.TheVariants.{OutOfMemory}
 use Rattle.lucy_naming.specs.Faults.{faults}
 use Rattle.lucy_naming.specs.Nodes.{placed_below}
 use Rattle.lucy_naming.specs.Written.{first_unwritten}
 use Rattle.lucy_naming.specs.Placing.{TellsFirstFault}
-use Rattle.lucy_place.proofs.ListLaws.{drop_next, take_next}
-use Rattle.lucy_naming.proofs.VerdictLaws.{leaves}
 use Rattle.lucy_naming.proofs.ProgramLaws.{NodesPlaced, placed_step, placed_is, told_at}
 use Rattle.lucy_naming.proofs.ShapeLaws.{node_shaped_at}
 use Rattle.lucy_naming.proofs.placing.all_nodes.Goals as goal

@@ -1,11 +1,12 @@
 use Rattle.std.proofs.Common.{◌↔◌, ◌≡◌, Bool, false, [], map, refl, ap, sym, ◌∙◌, subst, inl, inr, true≢false}
 use Rattle.std.specs.Prelude.{IsTrue}
+use Rattle.lucy_word.proofs.Results.{leaves}
 use Rattle.lucy_tree.specs.View.{NodeTree, node_tree, def_tree}
 use Rattle.lucy_naming.specs.declared.error.NameError.TheVariants.{OutOfMemory}
 use Rattle.lucy_naming.specs.Faults.{Within, verdict, def_faults, result_faults}
 use Rattle.lucy_naming.specs.Placing.{TellsFirstFault}
 use Rattle.lucy_naming.specs.Views.{within_of}
-use Rattle.lucy_naming.proofs.VerdictLaws.{leaves, faultless}
+use Rattle.lucy_naming.proofs.VerdictLaws.{faultless}
 use Rattle.lucy_naming.proofs.NodeFaults.{tells_defs, tells_results, tells_rooms, no_inner}
 use Rattle.lucy_naming.proofs.placing.named_node.Goals as goal
 

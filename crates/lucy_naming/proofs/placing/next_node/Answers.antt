@@ -1,10 +1,10 @@
 use Rattle.std.proofs.Common.{◌≡◌, false, map, ap, sym, ◌∙◌}
 use Rattle.std.proofs.lemmas.Result.{IfOk-weaker, IfErr-weaker}
+use Rattle.lucy_word.proofs.Results.{leaves}
 use Rattle.lucy_tree.specs.View.{NodeTree, ProgramTree, node_tree}
 use Rattle.lucy_naming.specs.Texts.{is_in}
 use Rattle.lucy_naming.specs.Streams.{node_names}
 use Rattle.lucy_naming.specs.Placing.{TellsFirstFault}
-use Rattle.lucy_naming.proofs.VerdictLaws.{leaves}
 use Rattle.lucy_naming.proofs.NodeFaults.{in_streams, tells_name, tells_streams, tells_inner, no_faults}
 use Rattle.lucy_naming.proofs.placing.next_node.Goals as goal
 

@@ -4,12 +4,13 @@ use Rattle.lucy_tree.specs.Shaped.{IsShapedProgram}
 use Rattle.lucy_tree.specs.View.{ProgramTree, node_tree, program_tree}
 use Rattle.lucy_word.specs.Limits.{limit_number}
 use Rattle.lucy_word.specs.declared.limit.Limit.TheVariants as limit
+use Rattle.lucy_word.proofs.Results.{leaves}
 use Rattle.lucy_place.specs.Proper.{HaveOperators}
 use Rattle.lucy_naming.specs.Faults.{faults}
 use Rattle.lucy_naming.specs.Nodes.{placed_nodes}
 use Rattle.lucy_naming.specs.Written.{first_unwritten}
 use Rattle.lucy_naming.specs.Placing.{TellsFirstFault}
-use Rattle.lucy_naming.proofs.VerdictLaws.{leaves, accepted_by, rejected_by, out_of}
+use Rattle.lucy_naming.proofs.VerdictLaws.{accepted_by, rejected_by, out_of}
 use Rattle.lucy_naming.proofs.NodesLaws.{placed_exactly}
 use Rattle.lucy_naming.proofs.ProgramLaws.{placed_length, placed_sound}
 use Rattle.lucy_naming.proofs.placing.place.Goals as goal

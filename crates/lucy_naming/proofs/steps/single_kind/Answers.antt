@@ -1,10 +1,10 @@
 use Rattle.std.proofs.Common.{◌∷◌, [], subst, ap, sym, ◌∙◌}
 use Rattle.lucy_tree.specs.Shaped.{IsShaped}
 use Rattle.lucy_tree.specs.View.{tree_of}
+use Rattle.lucy_tree.proofs.Trees.{tree_sampled}
 use Rattle.lucy_place.specs.declared.entry.PlaceKind.TheVariants as kinds
 use Rattle.lucy_naming.specs.Phrases.{expr_phrase}
 use Rattle.lucy_naming.specs.Drafts.{kind_of}
-use Rattle.lucy_naming.proofs.TreeLaws.{tree_sampled}
 use Rattle.lucy_naming.proofs.PhraseLaws.{phrase_sampled, phrase_followed, phrase_buffered}
 use Rattle.lucy_naming.proofs.OperandLaws.{not_single}
 use Rattle.lucy_naming.proofs.steps.single_kind.Goals as goal

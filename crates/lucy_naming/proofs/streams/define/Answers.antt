@@ -1,12 +1,13 @@
 use Rattle.std.proofs.Common.{◌≡◌, ◌+◌, ◌++◌, List, map, drop, ap, sym, ◌∙◌, subst, arith}
+use Rattle.lucy_word.proofs.Lists.{drop_next}
+use Rattle.lucy_word.proofs.Results.{leaves}
 use Rattle.lucy_tree.specs.View.{def_tree}
 use Rattle.lucy_tree.specs.declared.span.Name.{Name}
 use Rattle.lucy_naming.specs.Streams.{declared, def_names}
 use Rattle.lucy_naming.specs.Views.{text_of}
 use Rattle.lucy_naming.specs.Faults.{repeats}
 use Rattle.lucy_naming.specs.Placing.{TellsFirstFault}
-use Rattle.lucy_place.proofs.ListLaws.{drop_next}
-use Rattle.lucy_naming.proofs.VerdictLaws.{leaves, tells_front, repeats_append, define_more}
+use Rattle.lucy_naming.proofs.VerdictLaws.{tells_front, repeats_append, define_more}
 use Rattle.lucy_naming.proofs.streams.define.Goals as goal
 
 pub returns-in_err-declare-clause-refused : goal.returns-in_err-declare-clause-refused

@@ -1,7 +1,7 @@
 use Rattle.std.proofs.Common.{ℕ, ◌≡◌, List, [], ◌∷◌, ◌++◌, map, get_or, take, ap, sym, ◌∙◌, arith}
 use Rattle.std.specs.Prelude.{Some, slice_get}
 use Rattle.std.proofs.lemmas.List.{map_push, map_more}
-use Rattle.lucy_stream.specs.Needs.{Item}
+use Rattle.lucy_stream.specs.Needs.{StreamItem}
 use Rattle.lucy_net.specs.Causal.{items_by}
 use Rattle.lucy_net.specs.declared.settle.Wait.{Wait}
 use Rattle.lucy_net.specs.Faults.{item_of, item_now}
@@ -16,7 +16,7 @@ loop-wait-preserved c =
     let d : Wait = record { actor = 0; ring = 0 } in
     let i : ℕ = c.loop-wait.wait-index in
     let w : Wait = get_or c.args.waits.now i d in
-    let f : Wait → Item = λ wait. item_now c.args.net.now c.args.instant wait.actor in
+    let f : Wait → StreamItem = λ wait. item_now c.args.net.now c.args.instant wait.actor in
     let here : slice_get c.args.net.now.actors w.actor ≡ Some c.index-list-wait.result = actor_here c.args.net.now.actors c.list.result.now w.actor c.index-list-wait.result c.list.ensures (c.requires i d (omega arith)) c.index-list-wait.is in
     let n : c.items_by-number.result ≡ items_by (slice_get c.args.net.now.actors w.actor) c.args.instant = c.items_by-number.ensures ∙ ap (λ o. items_by o c.args.instant) (sym here) in
     ap (map item_of) c.in_ok-push.ensures.items ∙ map_push item_of c.loop-wait.items.items (record { actor = w.actor; number = c.items_by-number.result })

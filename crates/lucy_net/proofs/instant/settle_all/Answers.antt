@@ -1,10 +1,11 @@
 use Rattle.std.proofs.Common.{ℕ, ◌≡◌, length, subst, arith}
 use Rattle.std.specs.Prelude.{Option, slice_index}
+use Rattle.std.proofs.lemmas.List.Elements.{All-from_get_or}
 use Rattle.lucy_net.specs.Play.{IsPlayedSoFar}
 use Rattle.lucy_net.specs.Settling.{IsFiringOver, IsFiringLeft}
 use Rattle.lucy_net.specs.Instants.{slot}
 use Rattle.lucy_net.proofs.SlotLaws.{slot_within}
-use Rattle.lucy_net.proofs.InstantLaws.{All-of_index, done_next}
+use Rattle.lucy_net.proofs.InstantLaws.{done_next}
 use Rattle.lucy_net.proofs.instant.settle_all.Goals as goal
 
 pub settle-requires-clause-first : goal.settle-requires-clause-first
@@ -14,7 +15,7 @@ pub returns : goal.returns
 returns c = (
   c.loop-actor.invariant.played,
   record {
-    done = All-of_index (λ a. slice_index c.loop-actor.steps a ≡ length (slot c.args.net.now c.args.before a)) c.args.firing.now 0 (λ k l. c.loop-actor.invariant.done k (omega arith));
+    done = All-from_get_or (λ a. slice_index c.loop-actor.steps a ≡ length (slot c.args.net.now c.args.before a)) c.args.firing.now 0 (λ k l. c.loop-actor.invariant.done k (omega arith));
     depths = c.loop-actor.invariant.depths;
     unmarked = c.loop-actor.invariant.unmarked;
     none = c.loop-actor.invariant.none;

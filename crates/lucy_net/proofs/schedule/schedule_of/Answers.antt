@@ -2,10 +2,11 @@ use Rattle.std.proofs.Common.{◌≡◌, length, ap, refl, ◌∙◌, inl, inr, 
 use Rattle.std.proofs.lemmas.List.{length-map}
 use Rattle.lucy_net.specs.Faults.{rows_of}
 use Rattle.lucy_word.specs.declared.limit.Limit.TheVariants as limit
+use Rattle.lucy_word.proofs.Results.{fails_so}
 use Rattle.lucy_net.specs.Words.{net_words}
 use Rattle.lucy_net.specs.declared.error.CauseFault.TheVariants as fault
 use Rattle.lucy_net.specs.Schedules.{IsAllowed, TellSame}
-use Rattle.lucy_net.proofs.OneAnswer.{one_length, one_refusal, never_both, stops, fails_so}
+use Rattle.lucy_net.proofs.OneAnswer.{one_length, one_refusal, never_both, stops}
 use Rattle.lucy_net.proofs.PeriodLaws.{schedule_ok, too_long}
 use Rattle.lucy_net.proofs.schedule.schedule_of.Goals as goal
 

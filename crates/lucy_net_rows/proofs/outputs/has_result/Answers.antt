@@ -1,6 +1,7 @@
 use Rattle.std.proofs.Common.{◌<◌, length, ap, arith, rules}
 use Rattle.lucy_kahn.specs.Spots.{main_of, results_in}
-use Rattle.lucy_net_rows.proofs.ReadyLaws.{results_here, output_there}
+use Rattle.lucy_results.proofs.OutputLaws.{results_here}
+use Rattle.lucy_net_rows.proofs.ReadyLaws.{output_there}
 use Rattle.lucy_net_rows.proofs.outputs.has_result.Goals as goal
 
 pub returns : goal.returns

@@ -1,5 +1,5 @@
 use Rattle.std.proofs.Common.{◌-◌, refl}
-use Rattle.lucy_net_rows.proofs.ReadyLaws.{main_here}
+use Rattle.lucy_results.proofs.OutputLaws.{main_here}
 use Rattle.lucy_net_rows.proofs.outputs.main_node.Goals as goal
 
 pub returns : goal.returns

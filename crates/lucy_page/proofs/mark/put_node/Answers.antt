@@ -1,8 +1,8 @@
 use Rattle.std.proofs.Common.{ℕ, List, ◌++◌}
 use Rattle.std.specs.Prelude.{codes}
 use Rattle.std.proofs.lemmas.Result.{on_ok_weaker}
+use Rattle.lucy_word.proofs.Lists.{three}
 use Rattle.lucy_svg.specs.Escaping.{escaped}
-use Rattle.lucy_page.proofs.PutLaws.{three}
 use Rattle.lucy_page.proofs.ReadLaws.{reads_node}
 use Rattle.lucy_page.proofs.mark.put_node.Goals as goal
 

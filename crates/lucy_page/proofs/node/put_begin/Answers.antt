@@ -2,8 +2,8 @@ use Rattle.std.proofs.Common.{ℕ, List, ◌++◌, ap, ◌∙◌, append_assoc}
 use Rattle.std.specs.Prelude.{codes}
 use Rattle.std.specs.Fmt.{decimal}
 use Rattle.std.proofs.lemmas.Result.{on_ok_weaker}
+use Rattle.lucy_word.proofs.Lists.{three}
 use Rattle.lucy_page.specs.Pages.{linked}
-use Rattle.lucy_page.proofs.PutLaws.{three}
 use Rattle.lucy_page.proofs.node.put_begin.Goals as goal
 
 pub returns : goal.returns

@@ -1,8 +1,8 @@
 use Rattle.std.proofs.Common.{◌<◌, ◌≤◌, length, ap, sym, ◌∙◌, subst, arith}
 use Rattle.std.specs.List.{AllByRecursion}
+use Rattle.lucy_word.proofs.Lists.{all_weaker}
 use Rattle.lucy_picture.specs.Charts.{named_places}
 use Rattle.lucy_picture.proofs.ChartLaws.{places_within}
-use Rattle.lucy_picture.proofs.TurnLaws.{all_weaker}
 use Rattle.lucy_picture.proofs.chart.drawn.Goals as goal
 
 pub rows-requires : goal.rows-requires

@@ -1,10 +1,10 @@
 use Rattle.std.proofs.Common.{◌≡◌, ◌+◌, List, map, drop, ap, sym, ◌∙◌}
 use Rattle.std.specs.Prelude.{fold}
 use Rattle.std.proofs.lemmas.List.Sums.{fold-append}
+use Rattle.lucy_word.proofs.Lists.{drop_next}
 use Rattle.lucy_tree.specs.declared.expr.Expr.{Expr}
 use Rattle.lucy_tree.specs.Tree.{Tree, trees_of}
 use Rattle.lucy_tree.specs.View.{tree_of}
-use Rattle.lucy_place.proofs.ListLaws.{drop_next}
 use Rattle.lucy_picture.specs.Forms.{forms, all_forms}
 use Rattle.lucy_picture.specs.Seeking.{seek, seen}
 use Rattle.lucy_picture.proofs.forms.+forms.Goals as goal

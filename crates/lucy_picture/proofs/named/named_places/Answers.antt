@@ -1,5 +1,5 @@
 use Rattle.std.proofs.Common.{◌≡◌, ◌+◌, ◌++◌, ap, sym, ◌∙◌}
-use Rattle.lucy_place.proofs.ListLaws.{drop_next}
+use Rattle.lucy_word.proofs.Lists.{drop_next}
 use Rattle.lucy_picture.specs.Charts.{named_from}
 use Rattle.lucy_picture.proofs.TextLaws.{piece_more}
 use Rattle.lucy_picture.proofs.named.named_places.Goals as goal

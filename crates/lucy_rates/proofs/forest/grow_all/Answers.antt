@@ -1,10 +1,9 @@
 use Rattle.std.proofs.Common.{◌≡◌, ℕ, List, replicate, length, ap, sym, ◌∙◌, subst, refl, arith}
 use Rattle.std.specs.List.{All}
-use Rattle.std.proofs.lemmas.List.{length-replicate}
+use Rattle.std.proofs.lemmas.List.{length-replicate, take_at}
 use Rattle.std.proofs.lemmas.List.Elements.{All-replicate}
 use Rattle.lucy_need.specs.Meeting.{IsWithin}
 use Rattle.lucy_need.specs.declared.need.Need.{Need}
-use Rattle.lucy_shape.proofs.Lists.{given_back}
 use Rattle.lucy_rates.specs.declared.forest.Forest.{Forest}
 use Rattle.lucy_rates.specs.declared.fraction.Fraction.{Fraction}
 use Rattle.lucy_rates.specs.Forests.{IsForest}
@@ -52,8 +51,8 @@ returns-clause-grown c =
     let n : length c.deref_mut.result.now ≡ c.args.clocks = size _ _ _ (c.deref_mut.ensures.value ∙ c.in_ok-roots.ensures.items_if_clones_equal (λ y e. e)) in
     let planted = c.in_ok-plant_all.ensures.planted in
     grown _ _ _ _ _ _ _ _ n
-    (given_back c.in_ok-roots.roots.len new.roots _ (let l = c.deref_mut.ensures.len in omega arith))
-    (given_back c.in_ok-parents.parents.len new.parents _ (let l = c.deref_mut-2.ensures.len in omega arith))
-    (given_back c.in_ok-depths.depths.len new.depths _ (let l = c.deref_mut-3.ensures.len in omega arith))
-    (given_back c.in_ok-rates.rates.len new.rates _ (let l = c.deref_mut-4.ensures.len in omega arith))
+    (take_at new.roots _ c.in_ok-roots.roots.len (let l = c.deref_mut.ensures.len in omega arith))
+    (take_at new.parents _ c.in_ok-parents.parents.len (let l = c.deref_mut-2.ensures.len in omega arith))
+    (take_at new.depths _ c.in_ok-depths.depths.len (let l = c.deref_mut-3.ensures.len in omega arith))
+    (take_at new.rates _ c.in_ok-rates.rates.len (let l = c.deref_mut-4.ensures.len in omega arith))
     c.in_ok-plant_all.ensures.forest planted.0 planted.1 c.plant_all.ensures.sizes.2

@@ -1,9 +1,8 @@
 use Rattle.std.proofs.Common.{◌≡◌, ◌<◌, ℕ, List, length, get_or, replicate, ap, sym, ◌∙◌, subst, arith}
 use Rattle.std.specs.List.{All}
-use Rattle.std.proofs.lemmas.List.{length-replicate, get_or-replicate}
+use Rattle.std.proofs.lemmas.List.{length-replicate, get_or-replicate, take_at}
 use Rattle.lucy_need.specs.Meeting.{IsWithin}
 use Rattle.lucy_need.specs.declared.need.Need.{Need}
-use Rattle.lucy_shape.proofs.Lists.{given_back}
 use Rattle.lucy_rates.specs.Laying.{AreLongest}
 use Rattle.lucy_rates.proofs.shaping.prefixes.Goals as goal
 
@@ -26,5 +25,5 @@ pub returns-clause-ok : goal.returns-clause-ok
 returns-clause-ok c =
     let e = c.deref_mut.ensures.value ∙ c.in_ok-list.ensures.items_if_clones_equal (λ y e. e) in
     subst (AreLongest c.args.needs.now c.args.clocks (length c.args.needs.now))
-    (sym (given_back c.in_ok-list.list.len c.raise_prefixes.new.prefixes _ (c.raise_prefixes.ensures.size ∙ c.deref_mut.ensures.len)))
+    (sym (take_at c.raise_prefixes.new.prefixes _ c.in_ok-list.list.len (c.raise_prefixes.ensures.size ∙ c.deref_mut.ensures.len)))
     (subst (λ (n : ℕ). AreLongest c.args.needs.now n (length c.args.needs.now) c.raise_prefixes.new.prefixes) (ap length e ∙ length-replicate c.args.clocks 0) c.raise_prefixes.ensures)

@@ -1,6 +1,5 @@
 use Rattle.std.proofs.Common.{◌≡◌, ℕ, List, length, get_or, replicate, ap, sym, ◌∙◌, subst, refl, arith}
-use Rattle.std.proofs.lemmas.List.{length-replicate, get_or-replicate}
-use Rattle.lucy_shape.proofs.Lists.{given_back}
+use Rattle.std.proofs.lemmas.List.{length-replicate, get_or-replicate, take_at}
 use Rattle.lucy_rates.specs.Laying.{AreTops}
 use Rattle.lucy_rates.proofs.shaping.tops.Goals as goal
 
@@ -16,4 +15,4 @@ raise_tops-requires-clause-none c = none _ _ _ _ refl (c.deref_mut.ensures.value
 pub returns-clause-ok : goal.returns-clause-ok
 returns-clause-ok c =
     subst (AreTops c.args.roots.now c.args.vector.now (length c.args.roots.now))
-    (sym (given_back c.in_ok-list.list.len c.raise_tops.new.tops _ (let kept = c.raise_tops.auto.tops in let same = c.deref_mut.ensures.len in omega arith))) c.raise_tops.ensures
+    (sym (take_at c.raise_tops.new.tops _ c.in_ok-list.list.len (let kept = c.raise_tops.auto.tops in let same = c.deref_mut.ensures.len in omega arith))) c.raise_tops.ensures

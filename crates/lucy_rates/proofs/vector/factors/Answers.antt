@@ -1,5 +1,5 @@
 use Rattle.std.proofs.Common.{◌∙◌, length, sym, subst, arith}
-use Rattle.lucy_shape.proofs.Lists.{given_back}
+use Rattle.std.proofs.lemmas.List.{take_at}
 use Rattle.lucy_rates.specs.Laying.{AreFactors}
 use Rattle.lucy_rates.proofs.Asking.{factors_none}
 use Rattle.lucy_rates.proofs.vector.factors.Goals as goal
@@ -11,4 +11,4 @@ ask_all-requires-clause-none c = subst (AreFactors c.args.needs.now c.args.fores
 pub returns-clause-ok : goal.returns-clause-ok
 returns-clause-ok c =
     subst (AreFactors c.args.needs.now c.args.forest.now.roots.items c.args.forest.now.rates.items (length c.args.needs.now))
-    (sym (given_back c.in_ok-list.list.len c.ask_all.new.factors _ (let kept = c.ask_all.auto.factors in let same = c.deref_mut.ensures.len in omega arith))) c.in_ok-ask_all.ensures.ok
+    (sym (take_at c.ask_all.new.factors _ c.in_ok-list.list.len (let kept = c.ask_all.auto.factors in let same = c.deref_mut.ensures.len in omega arith))) c.in_ok-ask_all.ensures.ok

@@ -1,11 +1,11 @@
 use Rattle.std.proofs.Common.{◌≡◌, ℕ, ◌+◌, ◌<◌, List, [], ◌∷◌, ◌++◌, length, get_or, sym, ap, ◌∙◌, subst, refl, arith}
 use Rattle.std.specs.List.{All}
 use Rattle.std.proofs.lemmas.Result.{IfOk-weaker}
+use Rattle.std.proofs.lemmas.List.{get_or_default}
 use Rattle.lucy_need.specs.Meeting.{IsWithin}
 use Rattle.lucy_need.specs.declared.need.Need.{Need}
 use Rattle.lucy_rates.specs.declared.fraction.Fraction.{Fraction}
 use Rattle.lucy_rates.specs.Growing.{IsOther, ArePlanted, AreClimbing, IsWayBack}
-use Rattle.lucy_rates.proofs.Growing.{same_default}
 use Rattle.lucy_rates.proofs.Climbing.{IsRooted, climb_start, climb_swap, climb_step, way_back, deeper_up, parent_within}
 use Rattle.lucy_rates.proofs.walk.way_back.Goals as goal
 
@@ -18,7 +18,7 @@ rooted needs clocks trees roots parents depths rates h within c l =
 
 -- what an index gives, and what the lists of clocks say
 at_zero : (xs : List ℕ) (i x : ℕ) → i < length xs → x ≡ get_or xs i x → x ≡ get_or xs i 0
-at_zero xs i x l e = e ∙ same_default xs i x 0 l
+at_zero xs i x l e = e ∙ get_or_default xs i x 0 l
 
 pub loop-a-init : goal.loop-a-init
 loop-a-init c =

@@ -1,9 +1,10 @@
 use Rattle.std.proofs.Common.{◌++◌, refl, ap, sym, ◌∙◌, subst, arith}
+use Rattle.lucy_word.proofs.Results.{fails_so}
 use Rattle.lucy_text.specs.Outside.{Writes, Fails}
 use Rattle.lucy_lines.specs.declared.error.OutputError.TheVariants as error
 use Rattle.lucy_lines.specs.Outputs.{lines_after}
 use Rattle.lucy_run.specs.Owes.{most_instants}
-use Rattle.lucy_run.proofs.WriteLaws.{breaks_so, broken_off, lists_enough, writing_broken, written_on}
+use Rattle.lucy_run.proofs.WriteLaws.{broken_off, lists_enough, writing_broken, written_on}
 use Rattle.lucy_run.proofs.running.play.Goals as goal
 
 pub next_block-requires-clause-kinds : goal.next_block-requires-clause-kinds
@@ -21,7 +22,7 @@ next_block-requires-clause-under_way g c κs within =
 pub returns-in_err-streams-clause-plays : goal.returns-in_err-streams-clause-plays
 returns-in_err-streams-clause-plays g c = λ p first was items can along has.
     let (all, now, lines) = c.blocks-2.invariant.follows p first was items can along has in
-    breaks_so c.from_residual.result error.OutOfMemory _ _ c.from_residual.ensures.1
+    fails_so c.from_residual.result error.OutOfMemory _ _ c.from_residual.ensures.1
     (broken_off p first was all (g.I.Source.seen c.blocks-2.source) c.blocks-2.course now (g.O.Sink.seen c.blocks-2.out) c.blocks-2.writer lines (g.I.Source.seen c.next_block.new.source)
     c.args.course.now.block (most_instants c.args.course.now.given) (ap most_instants c.blocks-2.invariant.given) c.in_err-streams.ensures.gives_up)
 
@@ -52,7 +53,7 @@ returns-in_err-write-clause-plays g c = λ p first was items can along has.
     let next = c.in_ok-streams.ensures.goes_on p first all can now in
     let fails = subst (λ n. Fails (g.O.Sink.seen c.blocks-2.out) (g.O.Sink.seen c.write.new.sink) (lines_after c.blocks-2.writer.outputs c.in_ok-streams.streams c.blocks-2.writer.instants n)) c.horizon.ensures
     c.in_err-write.ensures.failed in
-    breaks_so c.from_residual-in_err-write.result error.Failed _ _ c.from_residual-in_err-write.ensures.1
+    fails_so c.from_residual-in_err-write.result error.Failed _ _ c.from_residual-in_err-write.ensures.1
     (writing_broken p first was all (g.I.Source.seen c.blocks-2.source) c.blocks-2.course now (g.O.Sink.seen c.blocks-2.out) c.blocks-2.writer lines c.values_in_turn.ensures c.lines_go_on.ensures.blocks
     can (g.I.Source.seen c.next_block.new.source) c.next_block.new.self c.in_ok-streams.streams next c.one_cut.ensures c.some_cut.ensures c.cut_in_pieces.ensures (g.O.Sink.seen c.write.new.sink)
     c.args.course.now.block (most_instants c.args.course.now.given) c.blocks-2.invariant.block (ap most_instants (c.in_ok-streams.ensures.given ∙ c.blocks-2.invariant.given)) fails)

@@ -15,5 +15,5 @@ loop-spec-preserved c =
     let at = slice_get_read c.args.rings.now (length c.args.rings.now) c.loop-spec.spec-index c.spec-item.result refl c.loop-spec-test.true c.spec-item.is in
     let there : (c.spec-item.result.from < length c.args.parts.now) × (c.spec-item.result.to < length c.args.parts.now) =
     subst (λ (x : RingSpec). (x.from < length c.args.parts.now) × (x.to < length c.args.parts.now)) (sym c.spec-item.is) (c.requires.actors c.loop-spec.spec-index c.spec-item.result c.loop-spec-test.true) in
-    join_more c.args.rings.now c.loop-spec.spec-index c.spec-item.result c.args.parts.now c.loop-spec.parts c.join.new.parts c.loop-spec.ends.items c.push.new.list.items c.in_ok-at.at
-    c.loop-spec.invariant at c.in_ok-at.ensures c.in_ok-push.ensures there.0 there.1
+    join_more c.args.rings.now c.loop-spec.spec-index c.spec-item.result c.args.parts.now c.loop-spec.parts c.join.new.parts c.loop-spec.ends.items c.push.new.self.items c.in_ok-at.at
+    c.loop-spec.invariant at c.in_ok-at.ensures c.in_ok-push.ensures.items there.0 there.1

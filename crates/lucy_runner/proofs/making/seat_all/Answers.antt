@@ -1,6 +1,7 @@
 use Rattle.std.proofs.Common.{ℕ, ◌<◌, ◌≡◌, List, [], length, get_or, ap, sym, ◌∙◌, subst}
 use Rattle.std.specs.Prelude.{All, Some, slice_get}
 use Rattle.std.proofs.lemmas.Option.{slice_get-get_or}
+use Rattle.lucy_word.proofs.Lists.{written_back}
 use Rattle.lucy_net.specs.declared.kind.ActorKind.TheVariants.{Output}
 use Rattle.lucy_net.specs.declared.net.Actor.{Actor}
 use Rattle.lucy_net.specs.declared.net.RingSpec.{RingSpec}
@@ -11,7 +12,6 @@ use Rattle.lucy_worker.specs.declared.part.Part.{Part}
 use Rattle.lucy_runner.specs.Crews.{crew_of}
 use Rattle.lucy_runner.specs.Making.{AreNumbered, CanWork, ArePlaced}
 use Rattle.lucy_runner.specs.Standing.{AreOutputs}
-use Rattle.lucy_runner.proofs.BenchLaws.{slice_back}
 use Rattle.lucy_runner.proofs.MadeLaws.{rings_within, alone_none, first_of, joined_of, numbered_all, works_all}
 use Rattle.lucy_runner.proofs.making.seat_all.Goals as goal
 
@@ -38,7 +38,7 @@ seat_parts-requires-clause-numbered c =
     let after : List Part = c.join_all.new.parts in
     let first = first_of c.args.core.now.net c.args.core.now.inputs c.args.core.now.instants c.list.result.now alone c.list.ensures c.in_ok-parts.ensures in
     let joined = joined_of c.args.core.now.net c.list-2.result.now c.as_mut_slice.result.now alone after c.in_ok-ends.ends.items c.list-2.ensures c.as_mut_slice.ensures.value c.in_ok-ends.ensures in
-    subst AreNumbered (sym (slice_back c.in_ok-parts.parts.len after alone joined.count c.in_ok-parts.parts.ok.0)) (numbered_all c.args.core.now.net c.args.core.now.inputs c.args.core.now.instants alone after c.in_ok-ends.ends.items c.requires.proper first joined)
+    subst AreNumbered (sym (written_back c.in_ok-parts.parts.len after alone joined.count c.in_ok-parts.parts.ok.0)) (numbered_all c.args.core.now.net c.args.core.now.inputs c.args.core.now.instants alone after c.in_ok-ends.ends.items c.requires.proper first joined)
 
 pub seat_parts-requires-clause-can : goal.seat_parts-requires-clause-can
 seat_parts-requires-clause-can c =
@@ -46,7 +46,7 @@ seat_parts-requires-clause-can c =
     let after : List Part = c.join_all.new.parts in
     let first = first_of c.args.core.now.net c.args.core.now.inputs c.args.core.now.instants c.list.result.now alone c.list.ensures c.in_ok-parts.ensures in
     let joined = joined_of c.args.core.now.net c.list-2.result.now c.as_mut_slice.result.now alone after c.in_ok-ends.ends.items c.list-2.ensures c.as_mut_slice.ensures.value c.in_ok-ends.ensures in
-    subst CanWork (sym (slice_back c.in_ok-parts.parts.len after alone joined.count c.in_ok-parts.parts.ok.0))
+    subst CanWork (sym (written_back c.in_ok-parts.parts.len after alone joined.count c.in_ok-parts.parts.ok.0))
     (works_all c.args.core.now.net c.args.core.now.inputs c.args.core.now.instants alone after c.in_ok-ends.ends.items c.requires.proper c.requires.supplied c.requires.early first joined)
 
 pub returns-clause-made : goal.returns-clause-made
@@ -55,7 +55,7 @@ returns-clause-made c =
     let after : List Part = c.join_all.new.parts in
     let first = first_of c.args.core.now.net c.args.core.now.inputs c.args.core.now.instants c.list.result.now alone c.list.ensures c.in_ok-parts.ensures in
     let joined = joined_of c.args.core.now.net c.list-2.result.now c.as_mut_slice.result.now alone after c.in_ok-ends.ends.items c.list-2.ensures c.as_mut_slice.ensures.value c.in_ok-ends.ensures in
-    let back = slice_back c.in_ok-parts.parts.len after alone joined.count c.in_ok-parts.parts.ok.0 in
+    let back = written_back c.in_ok-parts.parts.len after alone joined.count c.in_ok-parts.parts.ok.0 in
     let seated : ArePlaced after (length after) (crew_of c.in_ok-seats.seats.items) c.in_ok-seats.places.items = subst (λ (xs : List Part). ArePlaced xs (length xs) (crew_of c.in_ok-seats.seats.items) c.in_ok-seats.places.items) back c.in_ok-seats.ensures.placed in
     record {
       alone = alone;

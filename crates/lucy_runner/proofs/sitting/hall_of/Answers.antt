@@ -11,15 +11,15 @@ use Rattle.lucy_runner.proofs.sitting.hall_of.Goals.{then-used+in_ok-push-2, els
 pub loop-home-preserved : goal.loop-home-preserved
 loop-home-preserved c =
     let before : List Bench = c.loop-home.benches.items in
-    let numbers : c.push.new.list.items ≡ c.loop-home.numbers.items ++ length before ∷ [] = c.in_ok-push.ensures ∙ ap (λ n. c.loop-home.numbers.items ++ n ∷ []) (c.len.ensures ∙ c.loop-home.benches.ok.0) in
-    let count : length c.push.new.list.items ≡ c.loop-home.home + 1 = omega (arith, ap length numbers, length-append c.loop-home.numbers.items (length before ∷ []), c.loop-home.invariant.count) in
-    let places : (home : ℕ) → home < c.loop-home.home + 1 → get_or c.push.new.list.items home 0 ≡ length (numbers_where (is_used c.args.used.now) home) =
+    let numbers : c.push.new.self.items ≡ c.loop-home.numbers.items ++ length before ∷ [] = c.in_ok-push.ensures.items ∙ ap (λ n. c.loop-home.numbers.items ++ n ∷ []) (c.len.ensures ∙ c.loop-home.benches.ok.0) in
+    let count : length c.push.new.self.items ≡ c.loop-home.home + 1 = omega (arith, ap length numbers, length-append c.loop-home.numbers.items (length before ∷ []), c.loop-home.invariant.count) in
+    let places : (home : ℕ) → home < c.loop-home.home + 1 → get_or c.push.new.self.items home 0 ≡ length (numbers_where (is_used c.args.used.now) home) =
     subst (λ (xs : List ℕ). (home : ℕ) → home < c.loop-home.home + 1 → get_or xs home 0 ≡ length (numbers_where (is_used c.args.used.now) home)) (sym numbers)
     (places_more (is_used c.args.used.now) c.loop-home.home c.loop-home.numbers.items (length before) c.loop-home.invariant.count (seat_count c.args.used.now c.loop-home.home before c.loop-home.invariant.homes) c.loop-home.invariant.places) in
     elim c.if-used.branch [
       | then-used+in_ok-push-2 w ↦
           let bench : Bench = record { home = c.loop-home.home; parts = w.new.result } in
-          let now : c.if-used.benches.items ≡ before ++ bench ∷ [] = ap (λ v. v.items) w.benches-is ∙ w.in_ok-push-2.ensures in
+          let now : c.if-used.benches.items ≡ before ++ bench ∷ [] = ap (λ v. v.items) w.benches-is ∙ w.in_ok-push-2.ensures.items in
           let more : length c.if-used.benches.items ≡ length before + 1 = ap length now ∙ length-append before (bench ∷ []) in
           record {
             count = count;

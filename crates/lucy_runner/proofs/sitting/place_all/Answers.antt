@@ -84,9 +84,9 @@ loop-part-preserved c =
     let home : ℕ = get_or c.args.homes.now c.in-Some.part.number 0 in
     let own : slice_get (homes_in old) seat ≡ Some home = ap (λ hs. slice_get hs seat) kept ∙ c.requires.own c.in-Some.part.number 0 is.home in
     record {
-      placed = subst (λ (k : ℕ). ArePlaced c.args.parts.items k (map benched (set old seat b)) c.push.new.list.items) (sym next)
-          (bench_more c.args.parts.items n old c.loop-part.places.items c.push.new.list.items seat c.index-benches-seat.result b c.in-Some.part c.in_ok-place.place
-          c.loop-part.invariant.placed c.requires.numbered is.at inside c.in_ok-place.ensures.more c.in_ok-place.ensures.at c.in_ok-push.ensures);
+      placed = subst (λ (k : ℕ). ArePlaced c.args.parts.items k (map benched (set old seat b)) c.push.new.self.items) (sym next)
+          (bench_more c.args.parts.items n old c.loop-part.places.items c.push.new.self.items seat c.index-benches-seat.result b c.in-Some.part c.in_ok-place.place
+          c.loop-part.invariant.placed c.requires.numbered is.at inside c.in_ok-place.ensures.more c.in_ok-place.ensures.at c.in_ok-push.ensures.items);
       homes = homes_kept old seat c.index-benches-seat.result b inside c.in_ok-place.ensures.home ∙ kept;
       manned = subst (λ (k : ℕ). All (IsManned c.args.homes.now k) (set old seat b)) (sym next)
           (manned_more c.args.homes.now c.args.numbers.now n old seat c.index-benches-seat.result b c.in-Some.part c.loop-part.invariant.manned inside number

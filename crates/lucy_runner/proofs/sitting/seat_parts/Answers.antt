@@ -1,10 +1,11 @@
 use Rattle.std.proofs.Common.{ℕ, ◌≡◌, true, List, ◌++◌, map, length, get_or, take, drop, ap, sym, ◌∙◌, subst}
 use Rattle.std.specs.Prelude.{All, Some, slice_get}
+use Rattle.lucy_word.proofs.Lists.{written_back}
 use Rattle.lucy_runner.specs.declared.sitting.Bench.{Bench}
 use Rattle.lucy_runner.specs.declared.sitting.Hall.{Hall}
 use Rattle.lucy_runner.specs.Homes.{at_home, actors_by}
 use Rattle.lucy_runner.specs.Making.{benched, homes_in, CanWork, HaveSeats}
-use Rattle.lucy_runner.proofs.BenchLaws.{benches_work, slice_back}
+use Rattle.lucy_runner.proofs.BenchLaws.{benches_work}
 use Rattle.lucy_runner.proofs.HomeLaws.{own_bench, known_bench, crew_here}
 use Rattle.lucy_runner.proofs.sitting.seat_parts.Goals as goal
 
@@ -12,7 +13,7 @@ pub workers_of-requires : goal.workers_of-requires
 workers_of-requires c =
     let old : List Bench = c.in_ok-numbers.field-0.benches.items in
     let back : take c.in_ok-numbers.field-0.benches.len (c.place_all.new.benches ++ drop (length c.place_all.new.benches) old) ≡ c.place_all.new.benches =
-    slice_back c.in_ok-numbers.field-0.benches.len c.place_all.new.benches old (c.place_all.auto.benches ∙ ap length c.deref_mut.ensures.value) c.in_ok-numbers.field-0.benches.ok.0 in
+    written_back c.in_ok-numbers.field-0.benches.len c.place_all.new.benches old (c.place_all.auto.benches ∙ ap length c.deref_mut.ensures.value) c.in_ok-numbers.field-0.benches.ok.0 in
     subst (All (λ (b : Bench). CanWork (benched b))) (sym back) (benches_work c.args.parts.items c.place_all.new.benches c.in_ok-places.places.items c.in_ok-places.ensures.placed c.requires.can)
 
 pub place_all-requires-clause-own : goal.place_all-requires-clause-own
@@ -38,7 +39,7 @@ returns-clause-homed c =
     let old : List Bench = hall.benches.items in
     let homes : List ℕ = c.args.homes.now in
     let back : take hall.benches.len (c.place_all.new.benches ++ drop (length c.place_all.new.benches) old) ≡ c.place_all.new.benches =
-    slice_back hall.benches.len c.place_all.new.benches old (c.place_all.auto.benches ∙ ap length c.deref_mut.ensures.value) hall.benches.ok.0 in
+    written_back hall.benches.len c.place_all.new.benches old (c.place_all.auto.benches ∙ ap length c.deref_mut.ensures.value) hall.benches.ok.0 in
     ap actors_by (c.in_ok-seats.ensures ∙ ap (map benched) back) ∙ c.in_ok-places.ensures.homed ∙ ap (λ (bs : List Bench). map (at_home homes) (homes_in bs)) c.deref_mut.ensures.value
     ∙ crew_here c.deref.result.now homes hall c.args.workers has (ap length c.deref.ensures.value ∙ c.in_ok-used.ensures.count)
     (λ k d l. ap (λ xs. slice_get xs (get_or homes k d)) c.deref.ensures.value ∙ c.in_ok-used.ensures.used k d l)

@@ -1,5 +1,5 @@
 use Rattle.std.proofs.Common.{◌≡◌, ◌+◌, ℕ, ap, ◌∙◌, arith}
-use Rattle.lucy_solve.specs.System.{System}
+use Rattle.lucy_solve.specs.System.{DifferenceSystem}
 use Rattle.lucy_shape.specs.Index.{index_of}
 use Rattle.lucy_shape.specs.Rows.{row}
 use Rattle.lucy_shape.proofs.Adding.{step_map}
@@ -24,7 +24,7 @@ instance-diff-requires-clause-second c =
 
 pub add-requires : goal.add-requires
 add-requires c =
-    let e = ap (λ (s : System). s.count) c.loop-k.invariant in
+    let e = ap (λ (s : DifferenceSystem). s.count) c.loop-k.invariant in
     let a = c.requires.first.placed.within in
     let b = c.requires.second.placed.within in
     c.instance-diff.ensures.proper c.loop-k.diffs.count (omega arith) (omega arith)

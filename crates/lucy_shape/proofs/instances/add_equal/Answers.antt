@@ -1,5 +1,5 @@
 use Rattle.std.proofs.Common.{◌≡◌, ◌+◌, ◌∷◌, [], ℕ, ap, ◌∙◌, arith}
-use Rattle.lucy_solve.specs.System.{System}
+use Rattle.lucy_solve.specs.System.{DifferenceSystem}
 use Rattle.lucy_shape.specs.Index.{index_of}
 use Rattle.lucy_shape.specs.Rows.{row}
 use Rattle.lucy_shape.proofs.Adding.{step_flat, pair_is}
@@ -34,14 +34,14 @@ instance-two-requires-clause-second c =
 
 pub add_pair-requires-clause-one : goal.add_pair-requires-clause-one
 add_pair-requires-clause-one c =
-    let e = ap (λ (s : System). s.count) c.loop-k.invariant in
+    let e = ap (λ (s : DifferenceSystem). s.count) c.loop-k.invariant in
     let a = c.requires.first.placed.within in
     let b = c.requires.second.placed.within in
     c.instance-one.ensures.proper c.loop-k.diffs.count (omega arith) (omega arith)
 
 pub add_pair-requires-clause-two : goal.add_pair-requires-clause-two
 add_pair-requires-clause-two c =
-    let e = ap (λ (s : System). s.count) c.loop-k.invariant in
+    let e = ap (λ (s : DifferenceSystem). s.count) c.loop-k.invariant in
     let a = c.requires.first.placed.within in
     let b = c.requires.second.placed.within in
     c.instance-two.ensures.proper c.loop-k.diffs.count (omega arith) (omega arith)

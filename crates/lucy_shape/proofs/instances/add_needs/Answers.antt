@@ -1,7 +1,7 @@
 use Rattle.std.proofs.Common.{◌≡◌, List, length, get_or, ap, ◌∙◌, arith}
 use Rattle.std.proofs.lemmas.List.Folds.{length-flat_map-take}
 use Rattle.lucy_need.specs.declared.need.Need.{Need}
-use Rattle.lucy_solve.specs.System.{System}
+use Rattle.lucy_solve.specs.System.{DifferenceSystem}
 use Rattle.lucy_shape.specs.declared.shape.ClockShape.{ClockShape}
 use Rattle.lucy_shape.specs.Inequalities.{need_rows}
 use Rattle.lucy_shape.proofs.Adding.{step_take}
@@ -10,7 +10,7 @@ use Rattle.lucy_shape.proofs.instances.add_needs.Goals as goal
 
 pub add_need-requires-clause-ready : goal.add_need-requires-clause-ready
 add_need-requires-clause-ready c =
-    let e = ap (λ (s : System). s.count) c.loop-need.invariant in
+    let e = ap (λ (s : DifferenceSystem). s.count) c.loop-need.invariant in
     let n = ap length c.list-need-items.ensures in
     let t = c.loop-need-test.true in
     ready_at c.args.shape.now c.args.needs.now.list c.loop-need.need-index c.loop-need.diffs.count c.list-clocks.result.now c.need-item.result c.requires.shape.laid c.requires.words c.requires.shape.carried (omega arith)

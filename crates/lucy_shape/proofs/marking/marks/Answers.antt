@@ -1,9 +1,8 @@
 use Rattle.std.proofs.Common.{◌≡◌, ℕ, Bool, false, length, ap, sym, ◌∙◌, subst, refl}
 use Rattle.std.specs.List.{All}
-use Rattle.std.proofs.lemmas.List.{length-replicate}
+use Rattle.std.proofs.lemmas.List.{length-replicate, take_at}
 use Rattle.std.proofs.lemmas.List.Elements.{All-replicate}
 use Rattle.lucy_shape.specs.Marking.{IsBetween, AreMarks}
-use Rattle.lucy_shape.proofs.Lists.{given_back}
 use Rattle.lucy_shape.proofs.marking.marks.Goals as goal
 
 pub mark-requires-clause-within : goal.mark-requires-clause-within
@@ -19,7 +18,7 @@ mark-requires-clause-none c =
 pub returns-clause-size : goal.returns-clause-size
 returns-clause-size c =
     let same = c.mark.ensures.size ∙ c.deref_mut.ensures.len in
-    ap length (given_back _ c.mark.new.bits _ same) ∙ same ∙ c.in_ok-bits.ensures.len
+    ap length (take_at c.mark.new.bits _ _ same) ∙ same ∙ c.in_ok-bits.ensures.len
 
 pub returns-clause-marks : goal.returns-clause-marks
-returns-clause-marks c = subst (AreMarks c.args.from c.args.positions.now) (sym (given_back _ c.mark.new.bits _ (c.mark.ensures.size ∙ c.deref_mut.ensures.len))) c.mark.ensures.marks
+returns-clause-marks c = subst (AreMarks c.args.from c.args.positions.now) (sym (take_at c.mark.new.bits _ _ (c.mark.ensures.size ∙ c.deref_mut.ensures.len))) c.mark.ensures.marks

@@ -1,7 +1,7 @@
 use Rattle.std.proofs.Common.{◌≡◌, ◌+◌, map, ap, ◌∙◌, arith}
 use Rattle.std.specs.List.{range_with_len}
 use Rattle.lucy_need.specs.Meeting.{alone}
-use Rattle.lucy_solve.specs.System.{System}
+use Rattle.lucy_solve.specs.System.{DifferenceSystem}
 use Rattle.lucy_shape.specs.Added.{with_rows}
 use Rattle.lucy_shape.specs.Inequalities.{instances}
 use Rattle.lucy_shape.specs.Sized.{size_row}
@@ -21,7 +21,7 @@ instance-diff-requires-clause-second c =
 
 pub add-requires : goal.add-requires
 add-requires c =
-    let e = ap (λ (s : System). s.count) c.loop-k.invariant in
+    let e = ap (λ (s : DifferenceSystem). s.count) c.loop-k.invariant in
     let a = c.requires.ready.2.placed.within in
     let b = c.requires.ready.3.placed.within in
     c.instance-diff.ensures.proper c.loop-k.diffs.count (omega arith) (omega arith)

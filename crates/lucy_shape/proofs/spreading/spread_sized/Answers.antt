@@ -2,7 +2,7 @@ use Rattle.std.proofs.Common.{List, ℕ, length, inl, inr, refl, sym, ap, subst,
 use Rattle.std.proofs.lemmas.Bool.{cases_lt}
 use Rattle.lucy_need.specs.Meeting.{alone}
 use Rattle.lucy_need.specs.declared.need.Need.TheVariants.{Adapt}
-use Rattle.lucy_solve.specs.System.{System, IsGrounded, Solves, most_inequalities}
+use Rattle.lucy_solve.specs.System.{DifferenceSystem, IsGrounded, Solves, most_inequalities}
 use Rattle.lucy_shape.specs.declared.shape.ClockShape.{ClockShape}
 use Rattle.lucy_shape.specs.Added.{IsNeedSpreadable}
 use Rattle.lucy_shape.specs.Fitting.{variable_count}
@@ -24,7 +24,7 @@ add_size-requires-clause-ready c =
     let shape = c.args.shape.now in
     let need = Adapt (alone c.args.from) (alone c.args.to) in
     let ready = spreads_at c.args.needs.now shape need c.requires.shape c.needs_have_words.ensures c.requires.buffer in
-    let count = ap (λ (s : System). s.count) c.in_ok-diffs.ensures.list in
+    let count = ap (λ (s : DifferenceSystem). s.count) c.in_ok-diffs.ensures.list in
     subst (λ (n : ℕ). IsNeedSpreadable n c.list-clocks.result.now need) (sym count) (subst (λ (clocks : List ClockShape). IsNeedSpreadable (variable_count shape.clocks) clocks need) (sym c.list-clocks.ensures) ready)
 
 pub returns-then-not-are_few-clause-limit : goal.returns-then-not-are_few-clause-limit
@@ -80,16 +80,16 @@ returns-clause-exact c w xs fitting are =
     let needs = c.args.needs.now in
     let e = sized_is needs c.args.shape.now c.args.from c.args.to c.args.size c.list-clocks.result.now c.in_ok-diffs.diffs c.add_size.new.diffs c.list-clocks.ensures c.in_ok-diffs.ensures.list c.in_ok-add_size.ensures.ok in
     let law = sized_law needs c.args.shape.now w xs c.args.from c.args.to c.args.size c.needs_have_words.ensures c.requires.shape fitting are c.requires.buffer in
-    (λ met. subst (λ (s : System). Solves s xs) (sym e) (law.0 met), λ solves. law.1 (subst (λ (s : System). Solves s xs) e solves))
+    (λ met. subst (λ (s : DifferenceSystem). Solves s xs) (sym e) (law.0 met), λ solves. law.1 (subst (λ (s : DifferenceSystem). Solves s xs) e solves))
 
 pub returns-clause-fitting : goal.returns-clause-fitting
 returns-clause-fitting c xs solves =
     let needs = c.args.needs.now in
     let e = sized_is needs c.args.shape.now c.args.from c.args.to c.args.size c.list-clocks.result.now c.in_ok-diffs.diffs c.add_size.new.diffs c.list-clocks.ensures c.in_ok-diffs.ensures.list c.in_ok-add_size.ensures.ok in
-    fits_within needs c.args.shape.now xs c.args.from c.args.to c.args.size c.needs_have_words.ensures c.requires.shape c.requires.buffer (subst (λ (s : System). Solves s xs) e solves)
+    fits_within needs c.args.shape.now xs c.args.from c.args.to c.args.size c.needs_have_words.ensures c.requires.shape c.requires.buffer (subst (λ (s : DifferenceSystem). Solves s xs) e solves)
 
 pub returns-clause-solved : goal.returns-clause-solved
 returns-clause-solved c xs solves =
     let needs = c.args.needs.now in
     let e = sized_is needs c.args.shape.now c.args.from c.args.to c.args.size c.list-clocks.result.now c.in_ok-diffs.diffs c.add_size.new.diffs c.list-clocks.ensures c.in_ok-diffs.ensures.list c.in_ok-add_size.ensures.ok in
-    solves_front needs c.args.shape.now xs (solves_table needs c.args.shape.now xs c.args.from c.args.to c.args.size (subst (λ (s : System). Solves s xs) e solves))
+    solves_front needs c.args.shape.now xs (solves_table needs c.args.shape.now xs c.args.from c.args.to c.args.size (subst (λ (s : DifferenceSystem). Solves s xs) e solves))

@@ -4,7 +4,7 @@ use Rattle.std.proofs.lemmas.Int.{ints}
 use Rattle.std.proofs.lemmas.Bool.Decides.{nat_tests}
 use lib.Signed.{lt_z}
 use Rattle.lucy_solve.specs.declared.diffs.Diff.{Diff}
-use Rattle.lucy_solve.specs.System.{System, diff_at, no_diff, IsNegativeCycle, IsProper}
+use Rattle.lucy_solve.specs.System.{DifferenceSystem, diff_at, no_diff, IsNegativeCycle, IsProper}
 use Rattle.lucy_solve.proofs.Chains.{Walked, walked_none, walked_more, follows, is_cycle, of_cycle, refuted}
 use Rattle.lucy_solve.proofs.confirm.confirm_cycle.Goals as goal
 
@@ -41,7 +41,7 @@ loop-position-preserved c =
     let most = ap (λ (d : Diff). d.most) e in
     walked_more _ _ _ _ _ _ _ _ c.loop-position.invariant (omega arith) inside p (sym (ap (λ (d : Diff). d.left) e) ∙ c.if-diff-at.false) (ap (λ (d : Diff). d.right) e) (omega (arith, ints))
 
-whole : (s : System) (list : List Diff) (cycle : List ℕ) (i at : ℕ) (sum : ℤ) → list ≡ s.list → Walked list cycle i at sum → i ≡ length cycle → Walked s.list cycle (length cycle) at sum
+whole : (s : DifferenceSystem) (list : List Diff) (cycle : List ℕ) (i at : ℕ) (sum : ℤ) → list ≡ s.list → Walked list cycle i at sum → i ≡ length cycle → Walked s.list cycle (length cycle) at sum
 whole s list cycle i at sum e w f = let P : List Diff → ℕ → Type 0 = λ l i. Walked l cycle i at sum in
     subst (P s.list) f (subst (λ (l : List Diff). P l i) e w)
 

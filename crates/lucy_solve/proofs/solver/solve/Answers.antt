@@ -1,10 +1,10 @@
 use Rattle.std.proofs.Common.{◌≡◌, ℕ, replicate, List, sym, ap, ◌∙◌, subst, arith}
-use Rattle.lucy_solve.specs.System.{System, IsGrounded}
+use Rattle.lucy_solve.specs.System.{DifferenceSystem, IsGrounded}
 use Rattle.lucy_solve.specs.Search.{IsReached}
 use Rattle.lucy_solve.proofs.Lifts.{reached_first}
 use Rattle.lucy_solve.proofs.solver.solve.Goals as goal
 
-first : (s : System) (n : ℕ) (x parents : List ℕ) → IsGrounded s → n ≡ s.count → x ≡ replicate n 0 → parents ≡ replicate n 4294967295 → IsReached s x parents
+first : (s : DifferenceSystem) (n : ℕ) (x parents : List ℕ) → IsGrounded s → n ≡ s.count → x ≡ replicate n 0 → parents ≡ replicate n 4294967295 → IsReached s x parents
 first s n x parents ready e f g =
     let few = ready.few in
     let P : List ℕ → List ℕ → Type 0 = λ x parents. IsReached s x parents in

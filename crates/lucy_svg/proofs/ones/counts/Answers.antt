@@ -1,7 +1,7 @@
 use Rattle.std.proofs.Common.{◌+◌, ◌≡◌, ◌≤◌, false, get_or, sym, arith}
 use Rattle.lucy_word.specs.Bits.{one_if}
-use Rattle.lucy_word.proofs.BitsLaws.{ones_to-none}
-use Rattle.lucy_svg.proofs.OneLaws.{one_most, mark_is, counts_more, counts_all}
+use Rattle.lucy_word.proofs.BitsLaws.{ones_to-none, one_most}
+use Rattle.lucy_svg.proofs.OneLaws.{mark_is, counts_more, counts_all}
 use Rattle.lucy_svg.proofs.ones.counts.Goals as goal
 
 pub each-init : goal.each-init

@@ -1,5 +1,6 @@
 use Rattle.lucy_tree.specs.Tree.{buffered}
-use Rattle.lucy_syntax.proofs.OnPiles.{wrapped, makes_as, tree_buffered}
+use Rattle.lucy_tree.proofs.Trees.{tree_buffered}
+use Rattle.lucy_syntax.proofs.OnPiles.{wrapped, makes_as}
 use Rattle.lucy_syntax.proofs.make.buffered.Goals as goal
 
 pub returns : goal.returns

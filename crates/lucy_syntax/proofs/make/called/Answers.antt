@@ -3,9 +3,10 @@ use Rattle.lucy_word.specs.Bits.{Bits}
 use Rattle.lucy_tree.specs.Tree.{call}
 use Rattle.lucy_tree.specs.View.{all_trees, expr_list}
 use Rattle.lucy_tree.specs.declared.span.Name as name
+use Rattle.lucy_tree.proofs.Trees.{tree_call}
 use Rattle.lucy_grammar.specs.Meanings.{token_name}
 use Rattle.lucy_syntax.specs.Piles.{base_word}
-use Rattle.lucy_syntax.proofs.OnPiles.{grouped, makes_as, tree_call}
+use Rattle.lucy_syntax.proofs.OnPiles.{grouped, makes_as}
 use Rattle.lucy_syntax.proofs.make.called.Goals as goal
 
 pub returns : goal.returns

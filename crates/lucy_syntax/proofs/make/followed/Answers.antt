@@ -1,5 +1,6 @@
 use Rattle.lucy_tree.specs.Tree.{followed}
-use Rattle.lucy_syntax.proofs.OnPiles.{wrapped, makes_as, tree_followed}
+use Rattle.lucy_tree.proofs.Trees.{tree_followed}
+use Rattle.lucy_syntax.proofs.OnPiles.{wrapped, makes_as}
 use Rattle.lucy_syntax.proofs.make.followed.Goals as goal
 
 pub returns : goal.returns

@@ -2,8 +2,9 @@ use Rattle.std.proofs.Common.{arith, ap, ◌∙◌}
 use Rattle.lucy_tree.specs.Tree.{host}
 use Rattle.lucy_tree.specs.View.{all_trees, expr_list}
 use Rattle.lucy_tree.specs.declared.span.Name as name
+use Rattle.lucy_tree.proofs.Trees.{tree_host}
 use Rattle.lucy_grammar.specs.Meanings.{token_name}
-use Rattle.lucy_syntax.proofs.OnPiles.{grouped, higher, makes_as, tree_host}
+use Rattle.lucy_syntax.proofs.OnPiles.{grouped, higher, makes_as}
 use Rattle.lucy_syntax.proofs.make.hosted.Goals as goal
 
 pub returns : goal.returns

@@ -1,5 +1,6 @@
 use Rattle.std.proofs.Common.{ap, [], ◌∷◌}
-use Rattle.lucy_syntax.proofs.OnPiles.{lies_as, makes_as, tree_literal}
+use Rattle.lucy_tree.proofs.Trees.{tree_literal}
+use Rattle.lucy_syntax.proofs.OnPiles.{lies_as, makes_as}
 use Rattle.lucy_syntax.proofs.make.literal.Goals as goal
 
 pub returns : goal.returns

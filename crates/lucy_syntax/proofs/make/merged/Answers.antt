@@ -2,8 +2,9 @@ use Rattle.std.proofs.Common.{ap, ◌∙◌}
 use Rattle.lucy_word.specs.Bits.{Bits}
 use Rattle.lucy_tree.specs.Tree.{merged}
 use Rattle.lucy_tree.specs.View.{tree_of}
+use Rattle.lucy_tree.proofs.Trees.{tree_merged}
 use Rattle.lucy_grammar.specs.Meanings.{token_word}
-use Rattle.lucy_syntax.proofs.OnPiles.{joined, makes_as, tree_merged}
+use Rattle.lucy_syntax.proofs.OnPiles.{joined, makes_as}
 use Rattle.lucy_syntax.proofs.make.merged.Goals as goal
 
 pub returns : goal.returns

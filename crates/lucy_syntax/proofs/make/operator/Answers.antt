@@ -1,6 +1,7 @@
 use Rattle.std.proofs.Common.{arith}
 use Rattle.lucy_tree.specs.Tree.{operator}
-use Rattle.lucy_syntax.proofs.OnPiles.{grouped, higher, makes_as, tree_operator}
+use Rattle.lucy_tree.proofs.Trees.{tree_operator}
+use Rattle.lucy_syntax.proofs.OnPiles.{grouped, higher, makes_as}
 use Rattle.lucy_syntax.proofs.make.operator.Goals as goal
 
 pub returns : goal.returns

@@ -1,5 +1,6 @@
 use Rattle.lucy_tree.specs.Tree.{sampled}
-use Rattle.lucy_syntax.proofs.OnPiles.{wrapped, makes_as, tree_sampled}
+use Rattle.lucy_tree.proofs.Trees.{tree_sampled}
+use Rattle.lucy_syntax.proofs.OnPiles.{wrapped, makes_as}
 use Rattle.lucy_syntax.proofs.make.sampled.Goals as goal
 
 pub returns : goal.returns

@@ -1,6 +1,7 @@
 use Rattle.std.proofs.Common.{ap, [], ◌∷◌, ◌∙◌}
 use Rattle.lucy_tree.specs.Tree.{variable}
-use Rattle.lucy_syntax.proofs.OnPiles.{lies_as, makes_as, tree_variable}
+use Rattle.lucy_tree.proofs.Trees.{tree_variable}
+use Rattle.lucy_syntax.proofs.OnPiles.{lies_as, makes_as}
 use Rattle.lucy_syntax.proofs.make.variable.Goals as goal
 
 pub returns : goal.returns

@@ -1,6 +1,6 @@
 use Rattle.std.proofs.Common.{length, take, ap, sym, ◌∙◌, subst, arith}
 use Rattle.std.specs.Prelude.{slice_get}
-use Rattle.lucy_types.proofs.ListLaws.{get_there}
+use Rattle.lucy_host.proofs.Elements.{get_there}
 use Rattle.lucy_clock.specs.Clocks.{AreSignatures}
 use Rattle.lucy_clock.specs.NodeClocks.{signatures}
 use Rattle.lucy_program.specs.Inferring.{node_needs}

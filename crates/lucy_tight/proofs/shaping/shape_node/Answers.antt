@@ -1,5 +1,5 @@
 use Rattle.std.proofs.Common.{sym, subst}
-use Rattle.lucy_types.proofs.ListLaws.{get_there}
+use Rattle.lucy_host.proofs.Elements.{get_there}
 use Rattle.lucy_need.specs.declared.need.Needs.{Needs}
 use Rattle.lucy_rates.specs.Vectors.{IsShapeOf}
 use Rattle.lucy_tight.proofs.PrintedLaws.{shape_there}

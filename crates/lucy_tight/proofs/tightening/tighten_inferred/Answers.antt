@@ -1,11 +1,11 @@
 use Rattle.std.proofs.Common.{List, sym, subst}
 use Rattle.lucy_word.specs.Bits.{Bits}
 use Rattle.lucy_word.specs.Adaptable.{IsSize}
+use Rattle.lucy_word.proofs.Results.{goes_out}
 use Rattle.lucy_need.specs.Meeting.{MeetsAll, assigned}
 use Rattle.lucy_clock.specs.NodeClocks.{AreSizes}
 use Rattle.lucy_shape.specs.Fitting.{IsFitting}
 use Rattle.lucy_tight.proofs.PrintedLaws.{AtHand, at_hand, need_there, printed_small, printed_kept}
-use Rattle.lucy_tight.proofs.Refusing.{leaves}
 use Rattle.lucy_tight.proofs.TellLaws.{tells, refuses_so}
 use Rattle.lucy_tight.proofs.WellLaws.{AreFound, node_is, found_adaptable, well_within, size_is, clocks_well, sizes_bounded}
 use Rattle.lucy_tight.proofs.tightening.tighten_inferred.Goals.{After-needs_have_words, In_ok-clocks}
@@ -26,7 +26,7 @@ least_size-requires-clause-kept c = printed_kept (hand (goal.at.least_size-requi
 pub returns-in_err-found-clause-refused : goal.returns-in_err-found-clause-refused
 returns-in_err-found-clause-refused c =
     let e = c.in_err-found.field-0.0 in
-    leaves _ e c.from_residual-in_err-found.result c.from_residual-in_err-found.ensures.1
+    goes_out _ e c.from_residual-in_err-found.result c.from_residual-in_err-found.ensures.1
     (refuses_so (hand (goal.at.returns-in_err-found-clause-refused c).After-needs_have_words) e c.in_err-found.ensures.refused)
 
 pub clocks_at-requires-clause-words : goal.clocks_at-requires-clause-words

@@ -50,8 +50,8 @@ text-preserved c =
       here = (
         c.in-Token.kind ∷ k.0,
         c.in_ok-pass-in-Token.ensures ∙ ap (λ s. after s c.in-Token.kind) k.1,
-        passed_token c.args.text.now c.text.list.items c.add.new.list.items c.text.from k.0 c.in-Token.token c.in-Token.kind c.in-Token.n k.2
-            (rest_some c.args.text.now c.text.from c.text-test.true) h c.in_ok-add-in-Token.ensures,
+        passed_token c.args.text.now c.text.list.items c.push.new.self.items c.text.from k.0 c.in-Token.token c.in-Token.kind c.in-Token.n k.2
+            (rest_some c.args.text.now c.text.from c.text-test.true) h c.in_ok-push-in-Token.ensures.items,
       );
       bounded = subst Q (sym c.in_ok-pass-in-Token.ensures) (bounded_more (c.text.from + 1) (c.text.from + c.in-Token.n) _ (omega (arith, b.0)) (after_bounded c.text.from c.text.context c.in-Token.kind c.text.invariant.bounded));
     }
@@ -62,8 +62,8 @@ returns c = let k = c.text.invariant.here in passed_all c.args.text.now c.text.l
 pub returns-in-Last : goal.returns-in-Last
 returns-in-Last c =
     let k = c.text.invariant.here in
-    passed_last c.args.text.now c.text.list.items c.add-in-Last.new.list.items c.text.from k.0 c.in-Last.token c.in-Last.error k.2
-    (at_rest _ _ _ _ _ _ c.skip.ensures c.in-Last.is (c.next_step.ensures k.0 k.1)) c.in_ok-add-in-Last.ensures
+    passed_last c.args.text.now c.text.list.items c.push-in-Last.new.self.items c.text.from k.0 c.in-Last.token c.in-Last.error k.2
+    (at_rest _ _ _ _ _ _ c.skip.ensures c.in-Last.is (c.next_step.ensures k.0 k.1)) c.in_ok-push-in-Last.ensures.items
 
 pub returns-in-Stopped : goal.returns-in-Stopped
 returns-in-Stopped c =

@@ -1,9 +1,10 @@
 use Rattle.std.proofs.Common.{ℕ, ◌≡◌, List, length, subst, arith}
 use Rattle.std.specs.Prelude.{vec_capacity}
 use Rattle.std.proofs.lemmas.Bool.{ltb-false}
+use Rattle.lucy_stream.proofs.TotalLaws.{total_le}
 use Rattle.lucy_core.specs.Seen.{Seen, CanGoOn, done_of}
 use Rattle.lucy_trace.specs.Steps.{HasBeenLed, all_of}
-use Rattle.lucy_trace.proofs.CatchingLaws.{HasRuns, total_le, falls, ahead_most, gone_none, gone_length, gone_still, arrived, gone_total, gone_further, room_left}
+use Rattle.lucy_trace.proofs.CatchingLaws.{HasRuns, falls, ahead_most, gone_none, gone_length, gone_still, arrived, gone_total, gone_further, room_left}
 use Rattle.lucy_trace.proofs.catching.go_there.Goals as goal
 
 pub loop-moved-init : goal.loop-moved-init

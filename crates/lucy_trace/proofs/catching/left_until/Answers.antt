@@ -1,6 +1,6 @@
 use Rattle.std.proofs.Common.{arith}
+use Rattle.lucy_stream.proofs.TotalLaws.{total_more}
 use Rattle.lucy_core.specs.Seen.{done_of}
-use Rattle.lucy_trace.proofs.CatchingLaws.{total_more}
 use Rattle.lucy_trace.proofs.catching.left_until.Goals as goal
 
 pub overflow_sub-more : goal.overflow_sub-more

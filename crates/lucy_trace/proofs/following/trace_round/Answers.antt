@@ -1,4 +1,5 @@
 use Rattle.std.proofs.Common.{◌<◌, List, ℕ, subst}
+use Rattle.lucy_word.proofs.Results.{on_ok as always_ok}
 use Rattle.lucy_text.specs.Outside.{Writes, Fails}
 use Rattle.lucy_core.specs.Seen.{Seen}
 use Rattle.lucy_runner.specs.Left.{events_left}
@@ -6,7 +7,7 @@ use Rattle.lucy_trace.specs.Traces.{round_line}
 use Rattle.lucy_trace.proofs.CatchingLaws.{HasRuns}
 use Rattle.lucy_trace.specs.Together.{AreTogether}
 use Rattle.lucy_trace.specs.Progress.{IsRoundPrinted}
-use Rattle.lucy_trace.proofs.RoundLaws.{always_ok, on_ok}
+use Rattle.lucy_trace.proofs.RoundLaws.{on_ok}
 use Rattle.lucy_trace.proofs.FollowingLaws.{less_left, line_fails}
 use Rattle.lucy_trace.proofs.following.trace_round.Goals as goal
 

@@ -1,10 +1,11 @@
 use Rattle.std.proofs.Common.{◌≡◌, ◌+◌, ◌≤◌, ◌++◌, [], List, length, take, ap, subst, sym, ◌∙◌, arith}
 use Rattle.std.proofs.lemmas.Option.{same_Some}
 use Rattle.lucy_place.specs.declared.placed.PlacedNode.{PlacedNode}
+use Rattle.lucy_place.proofs.NodeLaws.{site_stands}
 use Rattle.lucy_types.specs.Rules.{IsRule}
 use Rattle.lucy_types.specs.Gathered.{HaveArities, own_rules}
 use Rattle.lucy_types.specs.Nodes.{StandFor, tables_of}
-use Rattle.lucy_types.proofs.RuleLaws.{GatheredUpto, proper_arities, gathered_none, gathered_all, gathered_call, site_within, site_stands, read_facts}
+use Rattle.lucy_types.proofs.RuleLaws.{GatheredUpto, proper_arities, gathered_none, gathered_all, gathered_call, site_within, read_facts}
 use Rattle.lucy_types.proofs.rules.node_rules.Goals as goal
 
 pub put_own-requires-clause-arities : goal.put_own-requires-clause-arities

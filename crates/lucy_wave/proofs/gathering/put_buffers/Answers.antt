@@ -1,7 +1,7 @@
 use Rattle.std.proofs.Common.{suc, ◌≡◌, get_or, Some, subst, arith}
 use Rattle.std.specs.Prelude.{slice_get}
 use Rattle.std.proofs.lemmas.Option.{slice_get-get_or}
-use Rattle.lucy_wave.proofs.VariableLaws.{buffer_places}
+use Rattle.lucy_clock.proofs.WithinLaws.{buffer_within}
 use Rattle.lucy_wave.proofs.gathering.put_buffers.Goals as goal
 
 pub word_of-read-requires : goal.word_of-read-requires
@@ -11,5 +11,5 @@ word_of-read-requires c =
     let i = c.each.i in
     let at = subst (λ ps. slice_get ps i ≡ Some (get_or places i 0)) c.list-place-items.ensures (slice_get-get_or places i 0 c.each-test.true) in
     let own = c.requires.proper.1.buffers (suc i) (get_or places i 0) at in
-    let low = (buffer_places c.requires.proper.0 n (get_or places i 0) (suc i) own.0 c.requires.proper.1 own.1).1 in
+    let low = (buffer_within c.requires.proper.0 n (get_or places i 0) (suc i) own.0 c.requires.proper.1 own.1).1 in
     omega (arith, c.requires.words, low)

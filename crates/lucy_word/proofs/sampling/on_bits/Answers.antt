@@ -8,12 +8,12 @@ use Rattle.lucy_word.proofs.sampling.on_bits.Goals as goal
 
 lengths : (c : goal.In_ok-period) → AreComputedLengths c.args.a.now c.args.b.now (length c.in_ok-prefix.prefix) (length c.in_ok-period.period)
 lengths c =
-    let P : ℕ → Type 0 = λ n. AreComputedLengths c.args.a.now c.args.b.now n c.in-Some.period_len in
+    let P : ℕ → Type 0 = λ n. AreComputedLengths c.args.a.now c.args.b.now n c.args.period_len in
     let Q : ℕ → Type 0 = λ n. AreComputedLengths c.args.a.now c.args.b.now (length c.in_ok-prefix.prefix) n in
-    subst Q (sym c.in_ok-period.ensures.count) (subst P (sym c.in_ok-prefix.ensures.count) c.in-Some.ensures.lengths)
+    subst Q (sym c.in_ok-period.ensures.count) (subst P (sym c.in_ok-prefix.ensures.count) c.requires.lengths)
 
 nonempty : (c : goal.In_ok-period) → 0 < length c.in_ok-period.period
-nonempty c = AreComputedLengths-some c.args.a.now c.args.b.now _ _ (lengths c) c.computed_lengths.ensures.first
+nonempty c = AreComputedLengths-some c.args.a.now c.args.b.now _ _ (lengths c) c.requires.first
 
 -- the bits of both lists, from walks that began with a and b
 whole : (a b x y u v w : Bits) → x ≡ a → y ≡ b → AreFirstOn x y w.prefix → IsLeft x y (length w.prefix) u v → AreFirstOn u v w.period →
@@ -39,7 +39,4 @@ returns-clause-on c = on c
 pub returns-clause-has_one : goal.returns-clause-has_one
 returns-clause-has_one c =
     (IsWord-on c.args.a.now c.args.b.now (record { prefix = c.in_ok-prefix.prefix; period = c.in_ok-period.period }) (on c)
-    c.computed_lengths.ensures.first c.computed_lengths.ensures.second (nonempty c)).has_one
-
-pub returns-clause-nonempty : goal.returns-clause-nonempty
-returns-clause-nonempty c = nonempty c
+    c.requires.first c.requires.second (nonempty c)).has_one

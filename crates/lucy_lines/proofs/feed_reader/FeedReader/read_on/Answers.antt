@@ -1,5 +1,6 @@
 use Rattle.std.proofs.Common.{◌∙◌, refl, sym, arith}
-use Rattle.lucy_lines.proofs.ResumeLaws.{none_read, reads_on, reads_as, given_up_later, on_err}
+use Rattle.lucy_word.proofs.Results.{on_err}
+use Rattle.lucy_lines.proofs.ResumeLaws.{none_read, reads_on, reads_as, given_up_later}
 use Rattle.lucy_lines.proofs.WantedLaws.{fewer_left, still_open_as, risen_more}
 use Rattle.lucy_lines.proofs.feed_reader.FeedReader.read_on.Goals as goal
 

@@ -1,5 +1,6 @@
 use Rattle.std.proofs.Common.{length, ap, ◌∙◌, refl, inl, inr, arith}
-use Rattle.lucy_lines.proofs.ResumeLaws.{none_read, reads_on, reads_as, given_up_later, on_err}
+use Rattle.lucy_word.proofs.Results.{on_err}
+use Rattle.lucy_lines.proofs.ResumeLaws.{none_read, reads_on, reads_as, given_up_later}
 use Rattle.lucy_lines.proofs.WantedLaws.{risen_more, has_one, enough_more, enough_all}
 use Rattle.lucy_lines.proofs.feed_reader.FeedReader.read_to.Goals as goal
 

@@ -1,5 +1,6 @@
 use Rattle.std.proofs.Common.{◌∙◌, refl, arith}
-use Rattle.lucy_lines.proofs.ResumeLaws.{none_read, reads_on, reads_lacking, given_up_later, on_err}
+use Rattle.lucy_word.proofs.Results.{on_err}
+use Rattle.lucy_lines.proofs.ResumeLaws.{none_read, reads_on, reads_lacking, given_up_later}
 use Rattle.lucy_lines.proofs.WantedLaws.{fewer_left, still_lacks, risen_more}
 use Rattle.lucy_lines.proofs.feed_reader.FeedReader.read_until.Goals as goal
 

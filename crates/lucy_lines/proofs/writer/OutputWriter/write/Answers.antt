@@ -1,10 +1,10 @@
 use Rattle.std.proofs.Common.{ℕ, ◌≡◌, ◌+◌, ◌-◌, ◌++◌, List, length, take, drop, ap, sym, subst, ◌∙◌, arith}
 use Rattle.std.proofs.lemmas.List.{take_at}
+use Rattle.lucy_word.proofs.Results.{on_err}
 use Rattle.lucy_lines.specs.Outputs.{lines_after}
 use Rattle.lucy_text.specs.Outside.{Writes, Fails}
 use Rattle.lucy_lines.specs.Writing.{WriterState}
 use Rattle.lucy_lines.specs.Walks.{WalkState, AreAt, FitRoom, IsBetweenBlocks}
-use Rattle.lucy_lines.proofs.SinkLaws.{on_err}
 use Rattle.lucy_lines.proofs.RunLaws.{standing}
 use Rattle.lucy_lines.proofs.writer.OutputWriter.write.Goals as goal
 

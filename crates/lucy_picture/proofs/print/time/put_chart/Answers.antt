@@ -1,9 +1,9 @@
 use Rattle.std.proofs.Common.{List, ◌++◌, ap, ◌∙◌}
 use Rattle.std.specs.Prelude.{flat_map}
+use Rattle.lucy_word.proofs.Lists.{six}
 use Rattle.lucy_picture.specs.declared.row.Row.{Row}
 use Rattle.lucy_picture.specs.declared.fill.Fill.{Fill}
 use Rattle.lucy_picture.specs.Lines.{row_text, fill_text}
-use Rattle.lucy_picture.proofs.TextLaws.{six}
 use Rattle.lucy_picture.proofs.print.time.put_chart.Goals as goal
 
 pub returns : goal.returns

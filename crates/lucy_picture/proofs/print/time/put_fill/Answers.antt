@@ -1,7 +1,8 @@
 use Rattle.std.proofs.Common.{◌++◌, Bool, List, ℕ, ap, ◌∙◌}
 use Rattle.std.specs.Prelude.{codes}
+use Rattle.lucy_word.proofs.Lists.{four}
 use Rattle.lucy_picture.specs.Lines.{buffer_line, marks_text, numbers_text}
-use Rattle.lucy_picture.proofs.TextLaws.{on_ok, four}
+use Rattle.lucy_picture.proofs.TextLaws.{on_ok}
 use Rattle.lucy_picture.proofs.print.time.put_fill.Goals as goal
 
 pub returns : goal.returns

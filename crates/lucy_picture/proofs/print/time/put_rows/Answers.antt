@@ -1,6 +1,6 @@
 use Rattle.std.proofs.Common.{◌≡◌, ◌++◌, refl, ap, sym, ◌∙◌}
 use Rattle.std.specs.Prelude.{flat_map}
-use Rattle.lucy_place.proofs.ListLaws.{drop_next}
+use Rattle.lucy_word.proofs.Lists.{drop_next}
 use Rattle.lucy_picture.specs.Lines.{row_text}
 use Rattle.lucy_picture.proofs.TextLaws.{piece_more, all_put}
 use Rattle.lucy_picture.proofs.print.time.put_rows.Goals as goal

@@ -1,6 +1,7 @@
 use Rattle.std.proofs.Common.{◌≡◌, ◌+◌, [], List, ℕ, None, length, ap, sym, ◌∙◌, subst}
 use Rattle.std.specs.Prelude.{ℤ, ◌↔◌, IsTrue, slice_index, Option}
 use Rattle.std.proofs.lemmas.Bool.{eqb-true, eqb-false}
+use Rattle.std.proofs.lemmas.List.{nil_from_length}
 use Rattle.lucy_word.specs.Bits.{Bits}
 use Rattle.lucy_stream.specs.Items.{list_at}
 use Rattle.lucy_lines.specs.declared.reader.TextFault.{TextFault}
@@ -8,7 +9,7 @@ use Rattle.lucy_kahn.specs.Horizons.{Suffice}
 use Rattle.lucy_run.specs.declared.ending.Ending.TheVariants as ending
 use Rattle.lucy_run.specs.Owes.{EndsFor, AllowsMore}
 use Rattle.lucy_run.specs.Courses.{CourseView, words_of, IsCourseUnderWay, EndsOver}
-use Rattle.lucy_run.proofs.OverLaws.{no_words, passed_many, over_unread, over_read}
+use Rattle.lucy_run.proofs.OverLaws.{passed_many, over_unread, over_read}
 use Rattle.lucy_run.proofs.course.Course.end.Goals as goal
 
 pub returns-then-is_empty-clause-over : goal.returns-then-is_empty-clause-over
@@ -16,7 +17,7 @@ returns-then-is_empty-clause-over g c =
     let x = c.self.inside in
     let v : CourseView = record { words = x.words.now; outputs = x.outputs.now; reader = x.reader; player = x.player; given = x.given; block = x.block; target = x.target; horizon = x.horizon } in
     let given : x.words.now ≡ [] → x.given ≡ None → ⊥ = subst (λ (w : CourseView). w.words ≡ [] → w.given ≡ None → ⊥) (sym c.self.view_is) c.requires.given in
-    let none = no_words x.words.now (eqb-true _ _ (sym c.is_empty.ensures ∙ c.if-is_empty.true)) in
+    let none = nil_from_length x.words.now (eqb-true _ _ (sym c.is_empty.ensures ∙ c.if-is_empty.true)) in
     subst (λ (w : CourseView). EndsOver (g.I.Source.seen c.args.source.now) (g.I.Source.seen c.args.source.now) w ending.Done) c.self.view_is
     (λ p first items can along stopped. over_unread p can first items (g.I.Source.seen c.args.source.now) v along stopped (sym along.words ∙ none) (given none))
 

@@ -1,8 +1,8 @@
 use Rattle.std.proofs.Common.{◌≤◌, length, ap, sym, ◌∙◌, subst, arith}
+use Rattle.lucy_word.proofs.Results.{on_err}
 use Rattle.lucy_run.specs.Courses.{CourseView, words_of, IsNextTarget, IsNextBlock}
 use Rattle.lucy_run.specs.Played.{CountsAllow, PlayerCanGoOn, PlayerHasGoneOn}
 use Rattle.lucy_run.specs.Owes.{most_instants}
-use Rattle.lucy_lines.proofs.SinkLaws.{on_err}
 use Rattle.lucy_run.proofs.ReadLaws.{fed_counts, gives_up_on}
 use Rattle.lucy_run.proofs.OverLaws.{words_count}
 use Rattle.lucy_run.proofs.CourseLaws.{read_behind, can_go_on, next}

@@ -1,6 +1,6 @@
 use Rattle.std.proofs.Common.{◌≡◌, [], length, ap, sym, ◌∙◌, subst, inr}
+use Rattle.lucy_word.proofs.Results.{on_err}
 use Rattle.lucy_lines.specs.Resuming.{AreMet}
-use Rattle.lucy_lines.proofs.SinkLaws.{on_err}
 use Rattle.lucy_lines.specs.Feeding.{values_by_stream}
 use Rattle.lucy_run.specs.Feeds.{IsShortOf}
 use Rattle.lucy_run.specs.Courses.{CourseView, GivesUpBehind}

@@ -1,6 +1,7 @@
 use Rattle.std.proofs.Common.{◌≡◌, List, ap, sym, ◌∙◌, subst, arith}
 use Rattle.std.specs.Vec.{with_items}
 use Rattle.std.proofs.lemmas.List.{with_items_is}
+use Rattle.lucy_word.proofs.Results.{on_err}
 use Rattle.lucy_stream.specs.States.{IsSame}
 use Rattle.lucy_core.specs.Seen.{Seen, state_of}
 use Rattle.lucy_runner.specs.declared.seat.Seat.{Seat}
@@ -9,7 +10,7 @@ use Rattle.lucy_runner.specs.Crews.{crew_of, seen_by}
 use Rattle.lucy_runner.specs.Blocks.{grown_seen}
 use Rattle.lucy_runner.specs.Growths.{MayGrow, OfEach, AreFew}
 use Rattle.lucy_runner.proofs.MayLaws.{IsAsked, few_parts, may_grow}
-use Rattle.lucy_runner.proofs.MoreLaws.{IsRoomy, IsMore, GoesOn, roomy_here, more_here, roomy_view, more_view, refused_as}
+use Rattle.lucy_runner.proofs.MoreLaws.{IsRoomy, IsMore, GoesOn, roomy_here, more_here, roomy_view, more_view}
 use Rattle.lucy_runner.proofs.runner.Runner.more.Goals as goal
 
 pub grow_all-requires-clause-few : goal.grow_all-requires-clause-few
@@ -46,7 +47,7 @@ returns-in_err-grow_all-clause-refused c =
     let back : last ≡ grown = with_items_is x.seats grown (omega (arith, c.grow_all.auto.seats, c.as_mut_slice.ensures.len)) in
     let roomy : IsRoomy x.net x.schedule x.ops x.instants x.before x.seats.items last x.places.items x.ends.items =
     roomy_here x.net x.schedule x.ops x.instants x.before x.seats.items c.as_mut_slice.result.now grown last x.places.items x.ends.items c.self.invariant.0 c.as_mut_slice.ensures.value c.in_err-grow_all.ensures.refused back in
-    refused_as c.from_residual.result _
+    on_err c.from_residual.result _
     (roomy_view x.net x.schedule x.ops x.instants x.before x.seats.items last x.places.items x.ends.items c.self.invariant.0 roomy ∙ c.self.view_is)
 
 pub invariant_of-self-2 : goal.invariant_of-self-2

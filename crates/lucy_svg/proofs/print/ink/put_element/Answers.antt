@@ -1,6 +1,7 @@
 use Rattle.std.proofs.Common.{◌++◌, ap, ◌∙◌}
+use Rattle.lucy_word.proofs.Lists.{three}
 use Rattle.lucy_svg.specs.Labels.{label_begin}
-use Rattle.lucy_svg.proofs.SheetLaws.{on_ok, three}
+use Rattle.lucy_svg.proofs.SheetLaws.{on_ok}
 use Rattle.lucy_svg.proofs.print.ink.put_element.Goals as goal
 
 pub returns : goal.returns

@@ -1,5 +1,5 @@
 use Rattle.std.proofs.Common.{◌≡◌, [], ◌∷◌, ◌++◌, take}
-use Rattle.lucy_results.proofs.lists.put.Given as goal
+use Rattle.lucy_results.proofs.lists.add.Given as goal
 
 -- the items so far, in a list of their own
 abbrev pub invariant-each : goal.invariant-each

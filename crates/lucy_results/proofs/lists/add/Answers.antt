@@ -4,8 +4,8 @@ use Rattle.std.specs.Int.{w64}
 use mir.Val.{SFits}
 use Rattle.std.proofs.lemmas.Int.{to_z-of_z}
 use Rattle.std.proofs.lemmas.List.{take_more}
-use Rattle.lucy_results.proofs.StreamLaws.{grown_last}
-use Rattle.lucy_results.proofs.lists.put.Goals as goal
+use Rattle.lucy_kahn.proofs.OwnLaws.{grown_last}
+use Rattle.lucy_results.proofs.lists.add.Goals as goal
 
 pub each-preserved : goal.each-preserved
 each-preserved c =
